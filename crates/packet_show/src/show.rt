@@ -1,22 +1,21 @@
 //! `show`: a capture's records, one by one.
-ghost use Rattle.std.specs.Prelude.{◌≡◌, ℕ, ◌≤◌, List, [], drop, ◌++◌, false, Some, None, IfSome, OnOk, OnErr};
+ghost use Rattle.std.specs.Prelude.{◌≡◌, ℕ, List, [], drop, ◌++◌, false, Some, None, IfSome, OnOk, OnErr};
 ghost use Rattle.dccp_io.specs.Counts.{Rose};
-ghost use Rattle.dccp_io.specs.Fronts.{TakesFront};
 ghost use Rattle.capture_reader.specs.declared.fault.CaptureFault.TheVariants.{ReadFault};
 ghost use Rattle.capture_reader.specs.Records.{entry_of, records_from};
 ghost use Rattle.capture_reader.specs.State.{Passed, holds_record, rest};
 ghost use Rattle.packet_show.specs.CaptureText.{CanCount, CountsFit, capture_text, first_tally, is_faulty, last_line, record_text, records_end, tallied};
 ghost use Rattle.packet_show.specs.Show.{Turns, Closes, ShowsHeaderFault, ShowsRecords};
-ghost use Rattle.tool_text.specs.Ends.{SinkFailed, SinkFails, Answers, EndsForCause, IsMovedOut};
+ghost use Rattle.tool_text.specs.Ends.{SinkFailed, SinkFails, Answers, EndsForCause};
 ghost use Rattle.tool_text.specs.Text.{SameText};
 
 use crate::capture_lines::put_last_line;
 use crate::flows::{Flows, Shown};
 use capture_reader::{CaptureFault, Captures, Record};
-use dccp_io::{Failed, Sink, Source, write_all};
+use dccp_io::{Sink, Source, write_all};
 use seq_circle::NoMemory;
 use std::alloc::Global;
-use tool_text::{JobEnd, answered, cut_off, flush, flush_if_full};
+use tool_text::{JobEnd, answered, cut_off, flush, flush_if_due};
 
 /// The records that were shown so far.
 #[derive(Drop)]
@@ -63,26 +62,6 @@ pub(crate) enum Turn {
     Ended(Option<CaptureFault>),
     // The source failed.
     Failed,
-}
-
-// Writes the text before the reader asks its source for more, and when it has a block's length.
-fn flush_if_due<S: Source + Drop, K: Sink>(
-    captures: &Captures<S>,
-    output: &mut K,
-    text: &mut Vec<u8>,
-) -> Result<(), Failed>
-    ensures moved { OnOk result (IsMovedOut (K.taken output.old) (K.taken output.new) text.old.items text.new.items) }
-    ensures written { OnOk result (holds_record captures.now ≡ false → text.new.items ≡ []) }
-    ensures front { OnErr result (TakesFront (K.taken output.old) (K.taken output.new) text.old.items) }
-    ensures never_falls { K.faults output.old ≤ K.faults output.new }
-    ensures takes_never_fall { K.empty_takes output.old ≤ K.empty_takes output.new }
-    ensures cause { OnErr result (SinkFails K.faults K.empty_takes output.old output.new) }
-{
-    if captures.holds_next() {
-        flush_if_full(output, text)
-    } else {
-        flush(output, text)
-    }
 }
 
 // Reads the next record and shows it. All text is written before the source is asked for more.
@@ -148,7 +127,8 @@ fn show_all<S: Source + Drop, K: Sink>(
         (SinkFailed (K.faults output.old) (K.faults output.new) (K.empty_takes output.old) (K.empty_takes output.new)) }
 {
     loop {
-        if flush_if_due(captures, output, text).is_err() {
+        let is_due = !captures.holds_next();
+        if flush_if_due(is_due, output, text).is_err() {
             return JobEnd::Write;
         }
         match show_next(captures, tally, text) {

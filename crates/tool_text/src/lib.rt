@@ -18,7 +18,7 @@ pub use crate::lines::{
 };
 pub use crate::names::malformed_name;
 pub use crate::numbers::number_up_to;
-pub use crate::output::{JobEnd, Status, answered, cut_off, flush, flush_if_full};
+pub use crate::output::{JobEnd, Status, answered, cut_off, flush, flush_if_due, flush_if_full};
 pub use crate::text::{
     is_text, put, put_counted, put_hex, put_hex_or_dash, put_named, put_number, put_v4,
 };

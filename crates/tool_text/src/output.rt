@@ -4,5 +4,5 @@
 mod blocks;
 mod status;
 
-pub use crate::output::blocks::{cut_off, flush, flush_if_full};
+pub use crate::output::blocks::{cut_off, flush, flush_if_due, flush_if_full};
 pub use crate::output::status::{JobEnd, Status, answered};

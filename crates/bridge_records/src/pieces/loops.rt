@@ -8,11 +8,11 @@ ghost use Rattle.bridge_records.specs.Turns.{LeavesText};
 use crate::blocks::MOST_BLOCK;
 use crate::pieces::fault::PieceFault;
 use crate::pieces::job::PieceJob;
-use crate::pieces::turns::{Turn, flush_if_due, take_turn};
+use crate::pieces::turns::{Turn, take_turn};
 use dccp_io::{ReadAhead, Sink, Source, write_all};
 use seq_circle::NoMemory;
 use std::alloc::Global;
-use tool_text::{JobEnd, answered, cut_off};
+use tool_text::{JobEnd, answered, cut_off, flush_if_due};
 
 // Writes the rest of the text, and what follows the last piece.
 fn close<J: PieceJob, K: Sink>(
@@ -55,7 +55,8 @@ fn take_pieces<J: PieceJob, S: Source, K: Sink>(
 {
     let mut given = 0;
     loop {
-        if flush_if_due(job, ahead, output, text).is_err() {
+        let is_due = ahead.len() < job.wanted();
+        if flush_if_due(is_due, output, text).is_err() {
             return PiecesEnd {
                 end: JobEnd::Write,
                 fault: None,

@@ -1,16 +1,13 @@
 //! One turn of the loop over pieces.
-ghost use Rattle.std.specs.Prelude.{◌≡◌, ◌+◌, ◌≤◌, ◌<◌, ◌==◌, ◌&&◌, [], length, OnOk, OnErr};
-ghost use Rattle.dccp_io.specs.Fronts.{TakesFront};
-ghost use Rattle.tool_text.specs.Ends.{IsMovedOut, SinkFails};
+ghost use Rattle.std.specs.Prelude.{◌≡◌, ◌+◌, ◌≤◌, ◌<◌, ◌==◌, ◌&&◌, [], length};
 ghost use Rattle.bridge_records.specs.Pieces.{unended, most_piece_bytes};
 ghost use Rattle.bridge_records.specs.Turns.{KeepsBlock, TurnsPiece};
 
 use crate::pieces::fault::{PieceError, PieceFault};
 use crate::pieces::job::PieceJob;
 use capture_reader::MOST_CAPTURE_BYTES;
-use dccp_io::{Failed, ReadAhead, Sink, Source};
+use dccp_io::{Failed, ReadAhead, Source};
 use seq_circle::NoMemory;
-use tool_text::{flush, flush_if_full};
 
 /// What one turn came to.
 pub(crate) enum Turn {
@@ -22,27 +19,6 @@ pub(crate) enum Turn {
     Over(Option<PieceFault>),
     /// The source failed.
     Failed,
-}
-
-/// Writes the text before the source is asked for more, and where it has a block's length.
-pub(crate) fn flush_if_due<J: PieceJob, K: Sink>(
-    job: &J,
-    ahead: &ReadAhead,
-    output: &mut K,
-    text: &mut Vec<u8>,
-) -> Result<(), Failed>
-    ensures moved { OnOk result (IsMovedOut (K.taken output.old) (K.taken output.new) text.old.items text.new.items) }
-    ensures written { OnOk result (length ahead.now.pending < J.job.wanted job.now → text.new.items ≡ []) }
-    ensures front { OnErr result (TakesFront (K.taken output.old) (K.taken output.new) text.old.items) }
-    ensures never_falls { K.faults output.old ≤ K.faults output.new }
-    ensures takes_never_fall { K.empty_takes output.old ≤ K.empty_takes output.new }
-    ensures cause { OnErr result (SinkFails K.faults K.empty_takes output.old output.new) }
-{
-    if ahead.len() < job.wanted() {
-        flush(output, text)
-    } else {
-        flush_if_full(output, text)
-    }
 }
 
 // Why the input is refused at its end, if it is: no byte may be left, and the job has to allow it.

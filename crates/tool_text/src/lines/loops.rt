@@ -8,8 +8,8 @@ ghost use Rattle.tool_text.specs.Turns.{Leaves};
 
 use crate::lines::job::LineJob;
 use crate::lines::refusals::{LineRefusal, put_refusal};
-use crate::lines::turns::{Turn, flush_if_due, judge_next};
-use crate::output::{JobEnd, answered, cut_off};
+use crate::lines::turns::{Turn, judge_next};
+use crate::output::{JobEnd, answered, cut_off, flush_if_due};
 use crate::words::LineFault;
 use dccp_io::{Lines, Sink, Source, write_all};
 use std::alloc::Global;
@@ -88,7 +88,8 @@ fn go_through<J: LineJob, S: Source + Drop, K: Sink>(
 {
     let mut number = 1;
     loop {
-        if flush_if_due(lines, output, text).is_err() {
+        let is_due = !lines.holds_next();
+        if flush_if_due(is_due, output, text).is_err() {
             return LinesEnd {
                 end: JobEnd::Write,
                 refusal: None,

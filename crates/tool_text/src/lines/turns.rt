@@ -1,16 +1,13 @@
 //! One turn of the loop over lines.
-ghost use Rattle.std.specs.Prelude.{◌≡◌, ◌≤◌, [], false, None, OnOk, OnErr};
-ghost use Rattle.dccp_io.specs.Fronts.{TakesFront};
+ghost use Rattle.std.specs.Prelude.{◌≡◌, ◌≤◌, [], false, None};
 ghost use Rattle.dccp_io.specs.Lines.{holds_next};
-ghost use Rattle.tool_text.specs.Ends.{IsMovedOut, SinkFails};
 ghost use Rattle.tool_text.specs.Turns.{TakesTurn, judged_turn, stopped_turn};
 
 use crate::lines::error::LineError;
 use crate::lines::job::LineJob;
 use crate::lines::refusals::too_long;
-use crate::output::{flush, flush_if_full};
 use crate::words::{LineFault, LineWhy, whole_line};
-use dccp_io::{Failed, Lines, Sink, Source, Stop};
+use dccp_io::{Lines, Source, Stop};
 use std::alloc::Global;
 
 /// The result of one turn.
@@ -46,27 +43,6 @@ fn judged_turn(answer: Result<(), LineError>) -> Turn
         Ok(()) => Turn::Accepted,
         Err(LineError::Refused(fault)) => Turn::Refused(fault),
         Err(LineError::NoMemory) => Turn::NoMemory,
-    }
-}
-
-/// Writes the text before the reader asks its source for more, and when it has a block's length. So the sender of the
-/// lines gets the answers to all lines that were read before it has to send more.
-pub(crate) fn flush_if_due<S: Source + Drop, K: Sink>(
-    lines: &Lines<S>,
-    output: &mut K,
-    text: &mut Vec<u8>,
-) -> Result<(), Failed>
-    ensures moved { OnOk result (IsMovedOut (K.taken output.old) (K.taken output.new) text.old.items text.new.items) }
-    ensures written { OnOk result (holds_next lines.now ≡ false → text.new.items ≡ []) }
-    ensures front { OnErr result (TakesFront (K.taken output.old) (K.taken output.new) text.old.items) }
-    ensures never_falls { K.faults output.old ≤ K.faults output.new }
-    ensures takes_never_fall { K.empty_takes output.old ≤ K.empty_takes output.new }
-    ensures cause { OnErr result (SinkFails K.faults K.empty_takes output.old output.new) }
-{
-    if lines.holds_next() {
-        flush_if_full(output, text)
-    } else {
-        flush(output, text)
     }
 }
 

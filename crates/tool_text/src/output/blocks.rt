@@ -1,8 +1,8 @@
 //! Text that goes out in blocks.
-ghost use Rattle.std.specs.Prelude.{◌≡◌, ◌≤◌, ◌<◌, [], length, OnOk, OnErr};
+ghost use Rattle.std.specs.Prelude.{◌≡◌, ◌≤◌, ◌<◌, [], length, true, OnOk, OnErr};
 ghost use Rattle.std.specs.Io.KnownBytes.{append_known};
 ghost use Rattle.dccp_io.specs.Fronts.{TakesFront};
-ghost use Rattle.tool_text.specs.Ends.{SinkFailed, HasBegun, HasTaken, IsMovedOut, block_length};
+ghost use Rattle.tool_text.specs.Ends.{SinkFailed, SinkFails, HasBegun, HasTaken, IsMovedOut, block_length};
 ghost use Rattle.tool_text.specs.Text.{SameText};
 
 use crate::output::status::JobEnd;
@@ -42,6 +42,23 @@ pub fn flush_if_full<K: Sink>(output: &mut K, text: &mut Vec<u8>) -> Result<(), 
         return Ok(());
     }
     flush(output, text)
+}
+
+/// Writes the text if that is due, as before more of the input is asked for, and else if it has a block's length (own). So
+/// the sender of the input has the answers to all that was read before more is wanted of it. Failed comes as from `flush`.
+pub fn flush_if_due<K: Sink>(is_due: bool, output: &mut K, text: &mut Vec<u8>) -> Result<(), Failed>
+    ensures moved { OnOk result (IsMovedOut (K.taken output.old) (K.taken output.new) text.old.items text.new.items) }
+    ensures written { OnOk result (is_due ≡ true → text.new.items ≡ []) }
+    ensures front { OnErr result (TakesFront (K.taken output.old) (K.taken output.new) text.old.items) }
+    ensures never_falls { K.faults output.old ≤ K.faults output.new }
+    ensures takes_never_fall { K.empty_takes output.old ≤ K.empty_takes output.new }
+    ensures cause { OnErr result (SinkFails K.faults K.empty_takes output.old output.new) }
+{
+    if is_due {
+        flush(output, text)
+    } else {
+        flush_if_full(output, text)
+    }
 }
 
 /// Writes the lines that are complete, so that none is lost if the job ends early, and returns why it does (own). All
