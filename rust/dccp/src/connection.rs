@@ -3,11 +3,13 @@
 use crate::anew::LastSync;
 use crate::end::End;
 use crate::fates::InFlight;
+use crate::frames::Frames;
 use crate::{
     AbortError, CloseError, Config, CookieKeys, Fate, Feature, Held, MakeError, Numbers, OpenError,
     Phase, Place, PreferError, SendError, Statistics, Timer, sys,
 };
 use std::collections::VecDeque;
+use std::mem;
 use std::time::{Duration, Instant};
 
 /// A frame for the peer: the bytes of one DCCP packet, from the generic header on.
@@ -126,28 +128,10 @@ pub struct Connection {
 /// The frames that wait for the peer, the packets of data in flight, and the counts.
 #[derive(Debug, Default)]
 struct Outgoing {
-    frames: VecDeque<Transmit>,
-    /// Buffers of frames that were sent, for further ones.
-    spare: Vec<Vec<u8>>,
+    frames: Frames,
     in_flight: InFlight,
     counts: Statistics,
 }
-
-impl Outgoing {
-    /// The next frame; its buffer is kept for another.
-    fn write(&mut self, buffer: &mut [u8]) -> Option<usize> {
-        let frame = self.frames.pop_front()?;
-        let length = frame.bytes.len();
-        buffer[..length].copy_from_slice(&frame.bytes);
-        if self.spare.len() < MOST_SPARE {
-            self.spare.push(frame.bytes);
-        }
-        Some(length)
-    }
-}
-
-/// How many buffers of frames are kept.
-const MOST_SPARE: usize = 128;
 
 impl Connection {
     /// A connection that has sent and received nothing. Refused if a wish is refused, or if there is no memory.
@@ -209,7 +193,7 @@ impl Connection {
         match status {
             sys::TOO_LONG | sys::NO_CONNECTION => Ok(outgoing
                 .frames
-                .pop_front()
+                .take_first()
                 .map_or(Accepted::Nothing, Accepted::Answer)),
             _ => {
                 MakeError::answer(status)?;
@@ -641,7 +625,7 @@ impl Connection {
 
     /// The next frame for the peer.
     pub fn poll_transmit(&mut self) -> Option<Transmit> {
-        self.outgoing.frames.pop_front()
+        self.outgoing.frames.take_first()
     }
 
     /// Writes frames for the peer into a buffer, one after another: as many as have one length, except that the last may have fewer bytes, at
@@ -663,22 +647,22 @@ impl Connection {
     /// # Ok::<(), Box<dyn std::error::Error>>(())
     /// ```
     pub fn poll_transmit_into(&mut self, buffer: &mut [u8], most: usize) -> Option<Segments> {
-        let next = self.outgoing.frames.front()?;
-        let (segment, is_answer) = (next.bytes.len(), next.is_answer);
+        let frames = &mut self.outgoing.frames;
+        let (next, is_answer) = frames.first()?;
+        let segment = next.len();
         if most == 0 || buffer.len() < segment {
             return None;
         }
-        let mut length = self.outgoing.write(buffer)?;
+        let mut length = frames.write_first(buffer)?;
         let mut count = 1;
         while !is_answer && count < most && length == count * segment {
-            let fits = |it: &Transmit| {
-                let own = it.bytes.len();
-                !it.is_answer && own <= segment && own <= buffer.len() - length
+            let fits = |(frame, is_answer): (&[u8], bool)| {
+                !is_answer && frame.len() <= segment.min(buffer.len() - length)
             };
-            if !self.outgoing.frames.front().is_some_and(fits) {
+            if !frames.first().is_some_and(fits) {
                 break;
             }
-            length += self.outgoing.write(&mut buffer[length..])?;
+            length += frames.write_first(&mut buffer[length..])?;
             count += 1;
         }
         Some(Segments {
@@ -749,11 +733,14 @@ impl Connection {
     }
 
     /// All frames that wait for the peer, in place of these, which were sent.
-    pub(crate) fn exchange_frames(&mut self, frames: &mut Vec<Transmit>) {
-        let room = MOST_SPARE - self.outgoing.spare.len();
-        let sent = frames.drain(..).take(room).map(|it| it.bytes);
-        self.outgoing.spare.extend(sent);
-        frames.extend(self.outgoing.frames.drain(..));
+    pub(crate) fn exchange_frames(&mut self, frames: &mut Frames) {
+        frames.clear();
+        mem::swap(frames, &mut self.outgoing.frames);
+    }
+
+    /// Keeps the buffer of frames that were sent, for further ones.
+    pub(crate) fn keep_buffer(&mut self, frames: &mut Frames) {
+        self.outgoing.frames.keep_buffer(frames);
     }
 
     /// The numbers of this end's packets and of its peer's.
@@ -851,10 +838,7 @@ fn is_answer(told: &sys::Told) -> bool {
 fn queue(outgoing: &mut Outgoing, (status, frame): (u32, &[u8]), is_answer: bool) -> u32 {
     if !frame.is_empty() {
         outgoing.counts.sent.count(frame);
-        let mut bytes = outgoing.spare.pop().unwrap_or_default();
-        bytes.clear();
-        bytes.extend_from_slice(frame);
-        outgoing.frames.push_back(Transmit { bytes, is_answer });
+        outgoing.frames.push(frame, is_answer);
     }
     status
 }

@@ -49,6 +49,7 @@ mod end;
 mod endpoint;
 mod fates;
 mod flows;
+mod frames;
 mod listener;
 mod names;
 pub mod net;

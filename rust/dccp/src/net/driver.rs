@@ -9,6 +9,7 @@ use super::system::CAN_LOOK;
 use super::wire::{Batch, Wire};
 use super::{Error, Socket};
 use crate::endpoint::{REFUSED, TOO_BUSY};
+use crate::frames::Frames;
 use crate::{Accepted, Config, Connection, CookieKeys, Phase};
 use std::collections::{HashMap, HashSet};
 use std::io;
@@ -180,14 +181,13 @@ impl Driver {
     }
 
     fn hear(&mut self, batch: &Batch) {
-        let datagrams = batch.datagrams();
-        for some in datagrams.chunk_by(|one, next| one.0 == next.0) {
-            let (peer, first) = some[0];
+        for (peer, datagrams) in batch.by_sender() {
             let known = self.lines.get(&peer).map(Arc::clone);
+            let asks = datagrams.iter().next().and_then(asked_service).is_some();
             // A connection that has ended does not prevent a new Request.
-            match known.filter(|it| asked_service(first).is_none() || it.end().is_none()) {
-                Some(line) if !self.half_open.contains(&peer) => self.tell(&line, some),
-                _ => some.iter().for_each(|(_, it)| self.meet(peer, it)),
+            match known.filter(|it| !asks || it.end().is_none()) {
+                Some(line) if !self.half_open.contains(&peer) => self.tell(&line, datagrams.iter()),
+                _ => datagrams.iter().for_each(|it| self.meet(peer, it)),
             }
         }
     }
@@ -199,7 +199,7 @@ impl Driver {
         }
         if let Some(line) = self.lines.get(&peer).filter(|it| it.end().is_none()) {
             let line = Arc::clone(line);
-            return self.tell(&line, &[(peer, datagram)]);
+            return self.tell(&line, [datagram].into_iter());
         }
         let asked = asked_service(datagram);
         let has_share = asked.is_some() && self.has_its_share(peer);
@@ -273,7 +273,7 @@ impl Driver {
         if let Ok(Some(frame)) = Connection::greet(&config, &reception.keys, datagram, now)
             && (!frame.is_answer || reception.answers.may(now))
         {
-            self.wire.send(peer, &[frame]);
+            self.wire.send_frame(peer, &frame.bytes);
         }
     }
 
@@ -352,7 +352,7 @@ impl Driver {
     fn take_in(&mut self, peer: SocketAddr, accepted: Accepted) {
         match accepted {
             Accepted::Connection(mut connection) if connection.phase() == Phase::Closed => {
-                let mut frames = Vec::new();
+                let mut frames = Frames::default();
                 connection.exchange_frames(&mut frames);
                 self.wire.send(peer, &frames);
             }
@@ -367,12 +367,12 @@ impl Driver {
                 self.lines.insert(peer, Arc::clone(&line));
                 self.announce(&line);
             }
-            Accepted::Answer(frame) => self.wire.send(peer, &[frame]),
+            Accepted::Answer(frame) => self.wire.send_frame(peer, &frame.bytes),
             Accepted::Nothing => {}
         }
     }
 
-    fn tell(&mut self, line: &Arc<Line>, datagrams: &[(SocketAddr, &[u8])]) {
+    fn tell<'a>(&mut self, line: &Arc<Line>, datagrams: impl Iterator<Item = &'a [u8]>) {
         if line.hear(datagrams) {
             self.to_wake.push(Arc::clone(line));
         }

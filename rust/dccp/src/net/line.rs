@@ -5,7 +5,8 @@ use super::options::Options;
 use super::system::CAN_LOOK;
 use super::wire::Wire;
 use super::{End, Error};
-use crate::{Connection, Event, Phase, SendError, Statistics, Transmit};
+use crate::frames::Frames;
+use crate::{Connection, Event, Phase, SendError, Statistics};
 use std::collections::VecDeque;
 use std::iter;
 use std::mem;
@@ -200,13 +201,12 @@ impl State {
         window <= 4 * window.saturating_sub(self.connection.in_flight())
     }
 
-    fn hear(&mut self, datagrams: &[(SocketAddr, &[u8])], now: Instant) {
+    fn hear<'a>(&mut self, datagrams: impl Iterator<Item = &'a [u8]>, now: Instant) {
         let phase = self.connection.phase();
         self.was_closing = matches!(phase, Phase::CloseReq | Phase::Closing);
         let taken = self.connection.taken();
-        let all = datagrams.iter().map(|(_, datagram)| *datagram);
         let (connection, inbox) = (&mut self.connection, &mut self.inbox);
-        connection.receive_all(all, now, |data| inbox.keep(data));
+        connection.receive_all(datagrams, now, |data| inbox.keep(data));
         if self.connection.taken() != taken {
             self.heard = now;
         }
@@ -306,10 +306,10 @@ impl State {
     }
 
     /// Replaces these frames, which were sent, by those that wait, except for answers over the limit.
-    fn exchange_frames(&mut self, now: Instant, frames: &mut Vec<Transmit>) {
+    fn exchange_frames(&mut self, now: Instant, frames: &mut Frames) {
         self.connection.exchange_frames(frames);
-        frames.retain(|it| {
-            let goes = !it.is_answer || self.answers.may(now);
+        frames.retain_answers(|| {
+            let goes = self.answers.may(now);
             self.answers_left_out += u64::from(!goes);
             goes
         });
@@ -328,8 +328,8 @@ pub(super) struct Line {
     wire: Arc<Wire>,
     agenda: Arc<Agenda>,
     state: Mutex<State>,
-    /// Held by the thread that hands frames to the system, so that they go out in order. The last frames stay, for their buffers.
-    order: Mutex<Vec<Transmit>>,
+    /// Held by the thread that hands frames to the system, so that they go out in order.
+    order: Mutex<Frames>,
     readable: Condvar,
     writable: Condvar,
 }
@@ -367,7 +367,7 @@ impl Line {
             wire: Arc::clone(wire),
             agenda: Arc::clone(agenda),
             state: Mutex::new(state),
-            order: Mutex::new(Vec::new()),
+            order: Mutex::new(Frames::default()),
             readable: Condvar::new(),
             writable: Condvar::new(),
         })
@@ -474,8 +474,12 @@ impl Line {
         self.hand_over(frames);
     }
 
-    fn hand_over(&self, frames: MutexGuard<'_, Vec<Transmit>>) {
+    /// Hands over frames. The next ones use the same buffer, which is in the processor's cache.
+    fn hand_over(&self, mut frames: MutexGuard<'_, Frames>) {
         self.wire.send(self.peer, &frames);
+        if let Ok(mut state) = self.state.try_lock() {
+            state.connection.keep_buffer(&mut frames);
+        }
     }
 
     /// Sleeps until another call may have changed what this one waits for.
@@ -649,7 +653,7 @@ impl Line {
     }
 
     /// Hears datagrams, and returns whether readers are to be woken, which may wait until there are no more datagrams.
-    pub(super) fn hear(&self, datagrams: &[(SocketAddr, &[u8])]) -> bool {
+    pub(super) fn hear<'a>(&self, datagrams: impl Iterator<Item = &'a [u8]>) -> bool {
         let (mut state, now) = (self.state(), Instant::now());
         state.hear(datagrams, now);
         let is_much = MUCH <= state.waiting();

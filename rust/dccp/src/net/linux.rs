@@ -4,7 +4,8 @@
 //! sockets is in this file.
 
 use super::wire::{Batch, is_passing};
-use crate::Transmit;
+use crate::frames::{Row, Run};
+use std::array;
 use std::ffi::{c_int, c_short, c_uint, c_ulong, c_void};
 use std::io::{self, ErrorKind};
 use std::net::{IpAddr, Ipv4Addr, Ipv6Addr, SocketAddr, SocketAddrV6, UdpSocket};
@@ -164,11 +165,8 @@ impl System {
     }
 
     /// Sends frames, to this peer if the socket is not connected. A frame that the system does not take is lost.
-    pub(super) fn send(&self, socket: &UdpSocket, to: Option<SocketAddr>, frames: &[Transmit]) {
-        match frames {
-            [frame] => send_one(socket, to, frame),
-            frames => send_many(socket, &self.has_segments, to, frames),
-        }
+    pub(super) fn send(&self, socket: &UdpSocket, to: Option<SocketAddr>, frames: Row<'_>) {
+        send_many(socket, &self.has_segments, to, frames);
     }
 
     /// Wakes a driver that sleeps.
@@ -255,19 +253,18 @@ impl Messages {
 
     /// Hears messages into these rooms, without waiting, and returns how many.
     fn receive(&mut self, socket: &UdpSocket, rooms: &mut [u8]) -> io::Result<usize> {
-        let mut pieces: Vec<Piece> = rooms
-            .chunks_exact_mut(ROOM)
-            .map(|room| Piece {
-                base: room.as_mut_ptr().cast(),
-                length: ROOM,
-            })
-            .collect();
-        let places = self.names.iter_mut().zip(&mut self.controls);
-        let mut headers: Vec<Message> = pieces
-            .iter_mut()
-            .zip(places)
-            .map(|(piece, (name, control))| message((name, size_of::<Name>()), (piece, 1), control))
-            .collect();
+        let mut pieces: [Piece; MOST] = array::from_fn(|place| Piece {
+            base: (&raw mut rooms[place * ROOM]).cast(),
+            length: ROOM,
+        });
+        let mut headers: [Message; MOST] = array::from_fn(|place| {
+            let name = (&raw mut self.names[place], size_of::<Name>());
+            message(
+                name,
+                (&raw mut pieces[place], 1),
+                &raw mut self.controls[place],
+            )
+        });
         let (first, count) = (headers.as_mut_ptr(), headers.len() as c_uint);
         // SAFETY: there are so many headers. Each points to a name, a control message, and a piece that points to a room of ROOM bytes;
         // all of it lives longer than the call, and nothing else uses it before.
@@ -323,117 +320,83 @@ fn send_many(
     socket: &UdpSocket,
     has_segments: &AtomicBool,
     to: Option<SocketAddr>,
-    frames: &[Transmit],
+    frames: Row<'_>,
 ) {
     let mut left = frames;
-    while !left.is_empty() {
+    loop {
         let is_many = has_segments.load(Ordering::Relaxed);
         let most = if is_many { MOST_SEGMENTS } else { 1 };
-        let runs: Vec<&[Transmit]> = Runs { left, most }.take(MOST).collect();
-        let sent = hand_over(socket, to, &runs);
-        left = &left[runs[..sent].iter().map(|it| it.len()).sum()..];
-        let Some(run) = runs.get(sent) else { continue };
+        let mut next = left;
+        let runs: [Option<Run<'_>>; MOST] = array::from_fn(|_| {
+            let run = next.run(most, MOST_BYTES)?;
+            next = next.after(run.count);
+            Some(run)
+        });
+        let count = runs.iter().flatten().count();
+        if count == 0 {
+            return;
+        }
+        let sent = hand_over(socket, to, &runs[..count]);
+        left = left.after(runs[..sent].iter().flatten().map(|it| it.count).sum());
+        let Some(Some(run)) = runs.get(sent) else {
+            continue;
+        };
         let fault = io::Error::last_os_error();
         if fault.kind() == ErrorKind::ConnectionRefused {
             // That of an earlier datagram, which it reported in place of sending.
-            hand_over(socket, to, &[run]);
-        } else if 1 < run.len() && !is_passing(&fault) {
+            hand_over(socket, to, &[Some(*run)]);
+        } else if 1 < run.count && !is_passing(&fault) {
             // The system, or the way to the peer, does not take such messages: from now on each frame is one.
             has_segments.store(false, Ordering::Relaxed);
             continue;
         }
-        left = &left[run.len()..];
+        left = left.after(run.count);
     }
 }
 
-/// Sends a frame. If the system does not take it, it is lost.
-fn send_one(socket: &UdpSocket, to: Option<SocketAddr>, frame: &Transmit) {
-    let send = || match to {
-        Some(peer) => socket.send_to(&frame.bytes, peer),
-        None => socket.send(&frame.bytes),
-    };
-    if send().is_err_and(|it| it.kind() == ErrorKind::ConnectionRefused) {
-        // That of an earlier datagram, which it reported in place of sending.
-        let _ = send();
-    }
-}
-
-/// Frames as runs: those of a run have one length, except that the last may be shorter.
-struct Runs<'a> {
-    left: &'a [Transmit],
-    most: usize,
-}
-
-impl<'a> Iterator for Runs<'a> {
-    type Item = &'a [Transmit];
-
-    fn next(&mut self) -> Option<&'a [Transmit]> {
-        let first = self.left.first()?.bytes.len();
-        let most = self.most.min((MOST_BYTES / first.max(1)).max(1));
-        let same = self
-            .left
-            .iter()
-            .take(most)
-            .take_while(|it| it.bytes.len() == first);
-        let mut count = same.count();
-        let shorter = |it: &Transmit| it.bytes.len() < first;
-        if count < most && self.left.get(count).is_some_and(shorter) {
-            count += 1;
-        }
-        let (run, rest) = self.left.split_at(count);
-        self.left = rest;
-        Some(run)
-    }
-}
-
-/// Hands runs to the system, each as a message, and returns how many it took before it refused one.
-fn hand_over(socket: &UdpSocket, to: Option<SocketAddr>, runs: &[&[Transmit]]) -> usize {
+/// Hands runs, at most [`MOST`], to the system, each as a message, and returns how many it took before it refused one.
+fn hand_over(socket: &UdpSocket, to: Option<SocketAddr>, runs: &[Option<Run<'_>>]) -> usize {
     let (mut name, name_length) = to.map_or((NOBODY, 0), name_of);
     let name = match to {
         Some(_) => &raw mut name,
         None => ptr::null_mut(),
     };
-    let mut pieces: Vec<Vec<Piece>> = runs.iter().map(|run| pieces_of(run)).collect();
-    let mut controls: Vec<Control> = runs.iter().map(|run| control_of(run)).collect();
-    let mut messages: Vec<Message> = pieces
-        .iter_mut()
-        .zip(&mut controls)
-        .map(|(own, control)| {
-            let control: *mut Control = if 1 < own.len() {
-                control
-            } else {
-                ptr::null_mut()
-            };
-            message((name, name_length), (own.as_mut_ptr(), own.len()), control)
-        })
-        .collect();
-    let (first, count) = (messages.as_mut_ptr(), messages.len() as c_uint);
-    // SAFETY: there are so many messages. Each has the name of its peer or none, a control message or none, and pieces, each of which
-    // points to the bytes of a frame; all of it lives longer than the call.
+    let run = |place: usize| runs.get(place).copied().flatten();
+    let mut pieces: [Piece; MOST] = array::from_fn(|place| run(place).map_or(NO_PIECE, piece_of));
+    let mut controls: [Control; MOST] =
+        array::from_fn(|place| run(place).map_or(NOTHING, control_of));
+    let mut messages: [Message; MOST] = array::from_fn(|place| {
+        let control = if run(place).is_some_and(|it| 1 < it.count) {
+            &raw mut controls[place]
+        } else {
+            ptr::null_mut()
+        };
+        message((name, name_length), (&raw mut pieces[place], 1), control)
+    });
+    let (first, count) = (messages.as_mut_ptr(), runs.len() as c_uint);
+    // SAFETY: there are so many messages. Each has the name of its peer or none, a control message or none, and a piece that points to the
+    // bytes of a run; all of it lives longer than the call.
     let sent = unsafe { sendmmsg(socket.as_raw_fd(), first, count, 0) };
     usize::try_from(sent).unwrap_or(0)
 }
 
-/// Where the bytes of frames are. The system only reads what is sent.
-fn pieces_of(run: &[Transmit]) -> Vec<Piece> {
-    run.iter()
-        .map(|frame| Piece {
-            base: frame.bytes.as_ptr().cast_mut().cast(),
-            length: frame.bytes.len(),
-        })
-        .collect()
+/// Where the bytes of a run are. The system only reads what is sent.
+fn piece_of(run: Run<'_>) -> Piece {
+    Piece {
+        base: run.bytes.as_ptr().cast_mut().cast(),
+        length: run.bytes.len(),
+    }
 }
 
 /// The control message with the length of a run's datagrams.
-fn control_of(run: &[Transmit]) -> Control {
+fn control_of(run: Run<'_>) -> Control {
     let mut control = Control {
         length: 18,
         level: SOL_UDP,
         kind: UDP_SEGMENT,
         value: [0; 8],
     };
-    let length = run.first().map_or(0, |it| it.bytes.len()) as u16;
-    control.value[..2].copy_from_slice(&length.to_ne_bytes());
+    control.value[..2].copy_from_slice(&(run.length as u16).to_ne_bytes());
     control
 }
 
@@ -443,6 +406,11 @@ const NOTHING: Control = Control {
     level: 0,
     kind: 0,
     value: [0; 8],
+};
+
+const NO_PIECE: Piece = Piece {
+    base: ptr::null_mut(),
+    length: 0,
 };
 
 const NOBODY: Name = Name {
@@ -534,8 +502,7 @@ fn address_of(name: &Name) -> Option<SocketAddr> {
 
 #[cfg(test)]
 mod tests {
-    use super::{Batch, Control, Runs, SOL_UDP, UDP_GRO, address_of, name_of, segment_of, split};
-    use crate::Transmit;
+    use super::{Batch, Control, SOL_UDP, UDP_GRO, address_of, name_of, segment_of, split};
     use std::net::SocketAddr;
 
     /// As in <netinet/in.h>: family, port in network order, address.
@@ -551,32 +518,6 @@ mod tests {
         assert_eq!((name.family, name.port, length), (10, [0, 80], 28));
         assert_eq!((name.rest[4], name.rest[19]), (0x20, 1));
         assert_eq!(address_of(&name), Some(v6));
-    }
-
-    fn lengths(of: &[usize], most: usize) -> Vec<usize> {
-        let frames: Vec<Transmit> = of
-            .iter()
-            .map(|length| Transmit {
-                bytes: vec![0; *length],
-                is_answer: false,
-            })
-            .collect();
-        let left = &frames[..];
-        Runs { left, most }.map(<[Transmit]>::len).collect()
-    }
-
-    /// UDP_SEGMENT cuts a message into pieces of one length; the last may be shorter.
-    #[test]
-    fn a_run_has_one_length_and_a_shorter_end() {
-        assert_eq!(lengths(&[9, 9, 9], 62), [3]);
-        assert_eq!(lengths(&[9, 9, 4, 9], 62), [3, 1]);
-        assert_eq!(lengths(&[4, 9, 9], 62), [1, 2]);
-        assert_eq!(lengths(&[9, 9, 9, 9, 9], 2), [2, 2, 1]);
-        assert_eq!(lengths(&[9, 9, 9], 1), [1, 1, 1]);
-        // No more bytes than an IP datagram has: 65,000 hold 62 of 1,040 bytes, and 31 of 2,044.
-        assert_eq!(lengths(&[1_040; 70], 62), [62, 8]);
-        assert_eq!(lengths(&[2_044; 40], 62), [31, 9]);
-        assert_eq!(lengths(&[], 62), []);
     }
 
     /// UDP_GRO gives the length of all datagrams of a message except the last.

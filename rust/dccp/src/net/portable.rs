@@ -1,7 +1,8 @@
 //! Datagrams by the standard library alone, one for each call.
 
-use super::wire::{Batch, is_passing};
-use crate::{MOST_FRAME_BYTES, Transmit};
+use super::wire::{Batch, is_passing, send_one};
+use crate::MOST_FRAME_BYTES;
+use crate::frames::Row;
 use std::io;
 use std::net::{SocketAddr, UdpSocket};
 use std::time::Duration;
@@ -44,14 +45,8 @@ impl System {
     }
 
     /// Sends frames, to this peer if the socket is not connected. A frame that the system does not take is lost.
-    pub(super) fn send(&self, socket: &UdpSocket, to: Option<SocketAddr>, frames: &[Transmit]) {
-        for frame in frames {
-            // If it is refused, it is lost, as any datagram may be.
-            let _ = match to {
-                Some(peer) => socket.send_to(&frame.bytes, peer),
-                None => socket.send(&frame.bytes),
-            };
-        }
+    pub(super) fn send(&self, socket: &UdpSocket, to: Option<SocketAddr>, frames: Row<'_>) {
+        frames.frames().for_each(|it| send_one(socket, to, it));
     }
 
     pub(super) fn ring(&self) {}

@@ -1,7 +1,7 @@
 //! Datagrams of the system's UDP, many with one call if possible.
 
 use super::system::{ROOMS, System};
-use crate::Transmit;
+use crate::frames::Frames;
 use std::io::{self, ErrorKind};
 use std::net::{Ipv4Addr, Ipv6Addr, SocketAddr, UdpSocket};
 use std::ops::Range;
@@ -23,12 +23,28 @@ impl Batch {
         }
     }
 
-    /// Each datagram, with its sender.
-    pub(super) fn datagrams(&self) -> Vec<(SocketAddr, &[u8])> {
+    /// Successive datagrams of one sender, until there are no more.
+    pub(super) fn by_sender(&self) -> impl Iterator<Item = (SocketAddr, Datagrams<'_>)> {
+        let rooms = &self.rooms;
+        self.heard
+            .chunk_by(|one, next| one.0 == next.0)
+            .map(|heard| (heard[0].0, Datagrams { rooms, heard }))
+    }
+}
+
+/// Successive datagrams of one sender.
+#[derive(Clone, Copy)]
+pub(super) struct Datagrams<'a> {
+    rooms: &'a [u8],
+    heard: &'a [(SocketAddr, Range<usize>)],
+}
+
+impl<'a> Datagrams<'a> {
+    /// The bytes of each.
+    pub(super) fn iter(self) -> impl Iterator<Item = &'a [u8]> {
         self.heard
             .iter()
-            .map(|(from, place)| (*from, &self.rooms[place.clone()]))
-            .collect()
+            .map(move |(_, place)| &self.rooms[place.clone()])
     }
 }
 
@@ -71,14 +87,34 @@ impl Wire {
     }
 
     /// Sends frames to a peer. A frame that the system does not take is lost.
-    pub(super) fn send(&self, peer: SocketAddr, frames: &[Transmit]) {
+    pub(super) fn send(&self, peer: SocketAddr, frames: &Frames) {
         let to = self.peer.is_none().then_some(peer);
-        self.system.send(&self.socket, to, frames);
+        match frames.first() {
+            Some((frame, _)) if frames.len() == 1 => send_one(&self.socket, to, frame),
+            _ => self.system.send(&self.socket, to, frames.row()),
+        }
+    }
+
+    /// Sends a frame to a peer. If the system does not take it, it is lost.
+    pub(super) fn send_frame(&self, peer: SocketAddr, frame: &[u8]) {
+        send_one(&self.socket, self.peer.is_none().then_some(peer), frame);
     }
 
     /// Wakes the driver, if it sleeps for long.
     pub(super) fn ring(&self) {
         self.system.ring();
+    }
+}
+
+/// Sends a frame, to this peer if the socket is not connected. If the system does not take it, it is lost.
+pub(super) fn send_one(socket: &UdpSocket, to: Option<SocketAddr>, frame: &[u8]) {
+    let send = || match to {
+        Some(peer) => socket.send_to(frame, peer),
+        None => socket.send(frame),
+    };
+    if send().is_err_and(|it| it.kind() == ErrorKind::ConnectionRefused) {
+        // That of an earlier datagram, which it reported in place of sending.
+        let _ = send();
     }
 }
 
