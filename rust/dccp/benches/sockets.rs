@@ -4,11 +4,14 @@
 //!     cargo bench --bench sockets
 //!
 //! Each way is taken nine times by turns, and its best time counts. A line each says how many packets a second came, the ratio to plain
-//! datagrams, and on Linux how much of a processor a packet took, both ends together. Then what 10,000 packets a second take of one.
+//! datagrams, and on Linux how much of a processor a packet took, both ends together. Then what 10,000 packets a second take of one, in bursts of
+//! 100: both ends together, which are in one process here, and then each, which is what a program at one end pays for its packets.
 
 use dccp::MOST_DATA_BYTES;
 use dccp::net::{Listener, Options, Socket};
+use std::collections::HashMap;
 use std::error::Error;
+use std::ffi::OsString;
 use std::fs;
 use std::io;
 use std::net::UdpSocket;
@@ -21,6 +24,11 @@ const ROUNDS: u32 = 9;
 /// As many plain datagrams are in flight, and every second one is answered: as an Ack Ratio of 2 has it.
 const IN_FLIGHT: u32 = 128;
 const PATIENCE: Duration = Duration::from_secs(1);
+/// How long 10,000 packets a second are sent.
+const SECONDS: u32 = 10;
+/// The threads of the receiver: the library's, and the one that reads.
+const LISTENER: &str = "dccp listener";
+const READER: &str = "reader";
 
 type Answer<T> = Result<T, Box<dyn Error + Send + Sync>>;
 
@@ -120,24 +128,43 @@ fn in_batches() -> Answer<f64> {
     )
 }
 
-/// The seconds of processor that this process has taken, by /proc: at 100 ticks a second, as Linux counts them.
-fn processor() -> Option<f64> {
-    let text = fs::read_to_string("/proc/self/stat").ok()?;
-    let fields: Vec<&str> = text.rsplit_once(')')?.1.split_whitespace().collect();
+/// The seconds of processor in a file `stat` of /proc: at 100 ticks a second, as Linux counts them.
+fn seconds(stat: &str) -> Option<f64> {
+    let fields: Vec<&str> = stat.rsplit_once(')')?.1.split_whitespace().collect();
     let ticks = fields.get(11..13)?.iter().map(|it| it.parse::<f64>());
     Some(ticks.sum::<Result<f64, _>>().ok()? / 100.0)
 }
 
-/// Which share of a processor 10,000 packets a second take.
-fn at_ten_thousand() -> Answer<Option<f64>> {
+/// The seconds of processor that this process has taken.
+fn processor() -> Option<f64> {
+    seconds(&fs::read_to_string("/proc/self/stat").ok()?)
+}
+
+/// The seconds of processor that each thread of this process has taken, with its name, by its number.
+fn threads() -> HashMap<OsString, (String, f64)> {
+    let found = fs::read_dir("/proc/self/task")
+        .into_iter()
+        .flatten()
+        .flatten();
+    let each = found.filter_map(|it| {
+        let stat = fs::read_to_string(it.path().join("stat")).ok()?;
+        let name = stat.split_once('(')?.1.rsplit_once(')')?.0;
+        Some((it.file_name(), (name.to_owned(), seconds(&stat)?)))
+    });
+    each.collect()
+}
+
+/// The shares of a processor that 10,000 packets a second take: at the sender, and at the receiver.
+fn at_ten_thousand() -> Answer<Option<[f64; 2]>> {
     let (client, server) = pair()?;
-    let receiver = thread::spawn(move || {
+    let reader = thread::Builder::new().name(READER.into());
+    let receiver = reader.spawn(move || {
         let mut found = Vec::new();
         while server.recv_batch(&mut found).is_ok() {}
-    });
-    let (begun, before) = (Instant::now(), processor());
+    })?;
+    let (begun, before) = (Instant::now(), threads());
     let packets = [[7; MOST_DATA_BYTES]; 100];
-    for turn in 1..=300 {
+    for turn in 1..=100 * SECONDS {
         let mut sent = 0;
         while sent < packets.len() {
             sent += client.send_batch(&packets[sent..])?.count;
@@ -146,13 +173,16 @@ fn at_ten_thousand() -> Answer<Option<f64>> {
             (begun + Duration::from_millis(10) * turn).saturating_duration_since(Instant::now()),
         );
     }
-    // These are the packets of three seconds, even where the machine was late.
-    let share = processor()
-        .zip(before)
-        .map(|(after, before)| (after - before) / 3.0);
+    let mut shares = [0.0; 2];
+    for (number, (name, after)) in threads() {
+        let began = before.get(&number).map_or(0.0, |it| it.1);
+        let is_receiver = [LISTENER, READER].contains(&name.as_str());
+        // These are the packets of so many seconds, even where the machine was late.
+        shares[usize::from(is_receiver)] += (after - began) / f64::from(SECONDS);
+    }
     client.close(Duration::from_secs(10))?;
     receiver.join().map_err(|_| "the receiver panicked")?;
-    Ok(share)
+    Ok(processor().map(|_| shares))
 }
 
 fn main() -> Answer<()> {
@@ -177,10 +207,10 @@ fn main() -> Answer<()> {
             best[place]
         );
     }
-    if let Some(share) = at_ten_thousand()? {
+    if let Some([sender, receiver]) = at_ten_thousand()?.map(|all| all.map(|it| 100.0 * it)) {
         println!(
-            "10,000 packets a second: {:.1} % of a processor",
-            100.0 * share
+            "10,000 packets a second: {:.1} % of a processor, the sender {sender:.1} and the receiver {receiver:.1}",
+            sender + receiver
         );
     }
     Ok(())
