@@ -3,8 +3,8 @@
 //
 //     game server PORT SECONDS, or game client PORT SECONDS
 //
-// Both use CCID 248, a fixed window of eight packets, and agree on names, so there may be a relay between them. A line for each connection says
-// how many packets arrived, and the longest silence.
+// Both use CCID 248, a fixed window of eight packets, each of which is acknowledged, and agree on names, so there may be a relay between them. A
+// line for each connection says how many packets arrived, and the longest silence.
 #include <algorithm>
 #include <chrono>
 #include <cstdio>
@@ -26,7 +26,7 @@ int main(int count, char **words) {
     if (count != 4) return 2;
     const std::string side = words[1];
     const bool is_server = side == "server";
-    const dccp::options options{{dccp::offer(DCCP_FEATURE_CCID, {248})}, "192.0.2.1 1", "192.0.2.2 2"};
+    const dccp::options options{{dccp::offer(DCCP_FEATURE_CCID, {248}), dccp::offer(DCCP_FEATURE_ACK_RATIO, {1})}, "192.0.2.1 1", "192.0.2.2 2"};
     auto socket = is_server ? dccp::socket::listen("127.0.0.1", words[2], {42}, options)
                             : dccp::socket::connect("127.0.0.1", words[2], 42, options);
     const auto frame = is_server ? 33333us : 16667us, seconds = std::chrono::microseconds(std::stoi(words[3]) * 1000000);

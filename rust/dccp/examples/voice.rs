@@ -4,7 +4,8 @@
 //!     cargo run --example voice -- server ADDRESS:PORT SECONDS, or client ADDRESS:PORT SECONDS
 //!
 //! The last line says which share of the other's packets was played, and the longest silence. Both use CCID 248, a fixed window of eight
-//! packets: with CCID 2 a few losses halve the window, and voice that waits is late. The ends agree on names for a relay.
+//! packets, each of which is acknowledged: with CCID 2 a few losses halve the window, and voice that waits is late. The ends agree on names for
+//! a relay.
 
 use dccp::net::{Error, Options, Socket};
 use dccp::{Feature, Place};
@@ -44,7 +45,8 @@ fn main() -> Result<(), Box<dyn std::error::Error>> {
     };
     let options = Options::new()
         .names("192.0.2.1:1".parse()?, "192.0.2.2:2".parse()?)
-        .offer(Feature::Ccid, Place::Here, &[248]);
+        .offer(Feature::Ccid, Place::Here, &[248])
+        .offer(Feature::AckRatio, Place::Here, &[1]);
     let socket = match side.as_str() {
         "server" => options.bind(address, &[42])?.accept()?,
         _ => options.connect(address, 42)?,
