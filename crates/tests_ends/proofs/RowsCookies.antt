@@ -3,7 +3,6 @@
 use Rattle.std.proofs.Common.{◌≡◌, refl, ℕ, List, true, false, [], ◌∷◌, replicate, Some, None, Ok, Err}
 use Rattle.dccp_options.specs.Grammar.{Entry}
 use Rattle.dccp_options.specs.declared.option.OptFault.TheVariants as faults
-use Rattle.dccp_packets.specs.Outgoing.{Outgoing}
 use Rattle.dccp_sum.specs.Checksum.{reversed}
 use Rattle.dccp_sum.specs.declared.pseudo_header.Pseudo.TheVariants.{V4, V6}
 use Rattle.init_cookies.specs.Appending.{appended}

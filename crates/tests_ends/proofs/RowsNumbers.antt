@@ -6,7 +6,6 @@ use Rattle.dccp_endpoint.specs.Calling.{fires, opens, sends_payload}
 use Rattle.dccp_endpoint.specs.Drafts.{framed}
 use Rattle.dccp_endpoint.specs.End.{EndState, last_taken, new_end}
 use Rattle.dccp_endpoint.specs.Receiving.{receives}
-use Rattle.dccp_endpoint.specs.Steps.{Step}
 use Rattle.dccp_states.specs.declared.calls.Timer.TheVariants as timers
 use Rattle.dccp_states.specs.declared.outcome.Outcome.TheVariants.{Synced, Took}
 use Rattle.dccp_states.specs.declared.phase.Phase.TheVariants as phase

@@ -5,9 +5,7 @@ use Rattle.std.specs.List.{list_any}
 use Rattle.dccp_packets.specs.Outgoing.{Outgoing}
 use Rattle.ccid_two.specs.Kinds.{Both, at_first, kinds_control}
 use Rattle.congestion_trait.specs.Control.{Control, may_send}
-use Rattle.dccp_endpoint.specs.Calling.{closes, opens}
 use Rattle.dccp_endpoint.specs.Controlled.{in_flight_of, window_of, with_control}
-use Rattle.dccp_endpoint.specs.Early.{sends_soon}
 use Rattle.dccp_endpoint.specs.Usual.{usual}
 use Rattle.dccp_states.specs.declared.calls.Timer.{Timer}
 use Rattle.dccp_states.specs.declared.phase.Phase.{Phase}

@@ -4,7 +4,6 @@ use Rattle.std.proofs.Common.{◌≡◌, ◌↔◌, refl, ap, sym, ◌∙◌, su
 use Rattle.std.proofs.lemmas.Bool.{le-leb, leb-true}
 use Rattle.std.proofs.lemmas.List.{map-append}
 use Rattle.std.specs.Prelude.{IsSome, flat_map, is_some, map}
-use Rattle.std.specs.List.Sorted.{IsStrictlySortedBy}
 use Rattle.dccp_endpoint.specs.Strangers.{stays_in}
 use Rattle.dccp_io.specs.Lines.{Next, End, Line, Long, Much, lines_of, next_in_lines, text_of}
 use Rattle.dccp_listener.specs.Calls.{IsBusy}

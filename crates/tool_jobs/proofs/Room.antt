@@ -9,7 +9,6 @@ use Rattle.dccp_endpoint.specs.Inputs as input
 use Rattle.dccp_endpoint.specs.declared.config.Config.{Config}
 use Rattle.dccp_io.specs.Lines.{lines_of, next_in_lines}
 use Rattle.tool_text.specs.Jobs.{LinesResult, LineVerdict, Accepted, Refused, by_next, gone_by, gone_from, most_events}
-use Rattle.tool_text.specs.declared.words.faults.LineFault.{LineFault}
 use Rattle.dccp_endpoint.specs.Drafts.{Fits}
 use Rattle.tool_jobs.proofs.Peers.{peers-last}
 use Rattle.tool_jobs.proofs.SchedulesRunning.{Turns, every-run, next-turns, run-last}

@@ -35,7 +35,7 @@ use Rattle.run_list.specs.declared.answers.Marked.{Marked}
 use Rattle.run_list.specs.declared.answers.Marked.TheVariants.{New}
 use Rattle.seq_circle.specs.Circle.{is_before}
 use Rattle.seq_circle.specs.Counts.{IsNumber, count_of, number_of}
-use Rattle.two_ends.proofs.OfWorlds.Acting.{Act, IsHeld, config_of, end_of, half_after, held_by, not-full, party_of, processed_by}
+use Rattle.two_ends.proofs.OfWorlds.Acting.{Act, IsHeld, config_of, end_of, half_after, held_by, moved-after, not-full, party_of, processed_by}
 use Rattle.two_ends.proofs.OfFeatures.FeatureOrder.{before_counts}
 use Rattle.two_ends.proofs.OfWorlds.HeardTo.{is-number, opened-none}
 use Rattle.two_ends.proofs.OfWorlds.Keeping.{SideInvariant, run-kept}
@@ -281,12 +281,6 @@ refused-by e bytes (SentReset code detail) cause f turns form number heard = by 
   by _ (AnswersClose a entered h to admitted is row) same = (let none = sym (ap (λ (x : Effect). x.hearing) same) ∙ heard in cc none)
 
 -- the half after a step is that of its effect
-moved-so : {Answer : Type 0} (half : Half) (arrived : Option ℕ) (step : Step Answer) (f : Effect) → step.after ≡ end_after half.end f
-    → step.frame ≡ frame_by half.end f f.sending → moved half arrived step ≡ half_after half arrived f
-moved-so half arrived step f after frame =
-    ap (λ (e : EndState). half_with half.frames e (half.processed ++ newly_processed half.end arrived e) step.frame) after
-    ∙ ap (half_with half.frames (end_after half.end f) (processed_by half arrived f)) frame
-
 -- a call delivers nothing
 abbrev IsAsked : Input → Type 0
 IsAsked (Arrives bytes) = ⊥
@@ -395,7 +389,7 @@ module _ {C : Type 0} (control : Control C) (start : ControlledWorld C) (effects
         let has = effects (half_of w side).end given both.0.ordered.proper in
         let act = act-of w h side None given has.effect has.because room (asked-given (half_of w side).end (half_of w (other side)).frames given asked) in
         Moves side (half_after (half_of w side) None has.effect)
-        (ap (with_half w side) (moved-so (half_of w side) None (end_stepped (half_of w side).end given) has.effect has.after_is has.frame_is))
+        (ap (with_half w side) (moved-after (half_of w side) None (end_stepped (half_of w side).end given) has.effect has.after_is has.frame_is))
         (met-by act both.0 both.1 (Early side) (Now e side) (more e side)
         (λ number heard. absurd (asked-deaf (half_of w side).end given has.effect.phase has.effect.hearing number asked has.because.hears heard)))
 
@@ -463,7 +457,7 @@ module _ {C : Type 0} (control : Control C) (start : ControlledWorld C) (effects
       frame-leaves =
           Moves side (half_after half (Some frame.number) effect)
           (ap (with_half w side)
-          (moved-so half (Some frame.number) (end_stepped half.end (Arrives frame.bytes)) effect told.effect.after_is told.effect.frame_is))
+          (moved-after half (Some frame.number) (end_stepped half.end (Arrives frame.bytes)) effect told.effect.after_is told.effect.frame_is))
           (met-by act both.0 both.1 (Early side) (Now delivery side) (more delivery side) now)
 
     by-room : (frame : SentFrame) → slice_get (half_of w (other side)).frames index ≡ Some frame → (full far : Bool) → is_full half ≡ full

@@ -54,7 +54,7 @@ use Rattle.two_ends.specs.World.{Half, Said, WorldState, WorldStep, as_sent, hal
 use Rattle.two_ends.specs.declared.frames.SentFrame.{SentFrame}
 use Rattle.two_ends.proofs.OfWorlds.Acting.{IsHeld, Refused, Steps, Takes, event-taken}
 use Rattle.two_ends.proofs.OfWorlds.Consequences.{apart-so, missing-none}
-use Rattle.two_ends.proofs.OfWorlds.Delivering.{delivers-so}
+use Rattle.two_ends.proofs.OfWorlds.Delivering.{delivers-so, half-with}
 use Rattle.two_ends.proofs.OfWorlds.Keeping.{SideInvariant, held-once, kept-proper, kept-told, step-kept}
 use Rattle.two_ends.proofs.OfWorlds.ReadBack.{IsFromPeer, IsSentFrame}
 use Rattle.world_events.specs.Actors.{actor, other}
@@ -382,10 +382,6 @@ took-some (seen.Received (SentReset code detail)) same = cc same
 took-some (seen.Called result) same = cc same
 took-some (seen.Fired applies) same = cc same
 
-half-there : (w : WorldState) (side : Side) (half : Half) → half_of (with_half w side half) side ≡ half
-half-there w Client half = refl
-half-there w Server half = refl
-
 newly-one : (b : Bool) (arrived : Option ℕ) (m d : ℕ) → arrived ≡ Some m → number_if b arrived ≡ d ∷ [] → m ≡ d
 newly-one true arrived m d is same = let one : m ∷ [] ≡ d ∷ [] = sym (ap (number_if true) is) ∙ same in cc one
 newly-one false arrived m d is same = let none : ◌≡◌ {A = List ℕ} [] (d ∷ []) = sym (ap (number_if false) is) ∙ same in cc none
@@ -422,7 +418,7 @@ module _ {C : Type 0} (control : Control C) (w : ControlledWorld C) (h : IsHeld 
   next = (half_steps half arrived given).half
 
   is-next : half_of two.world (actor e) ≡ next
-  is-next = ap (λ (v : WorldState). half_of v (actor e)) world ∙ half-there w.world (actor e) next
+  is-next = ap (λ (v : WorldState). half_of v (actor e)) world ∙ half-with w.world (actor e) next
 
   controlled-world : (side : Side) → (controlled control w side two).world ≡ two.world
   controlled-world Client = refl

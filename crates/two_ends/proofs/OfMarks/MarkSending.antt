@@ -29,7 +29,7 @@ use Rattle.dccp_packets.specs.declared.header.PacketType.TheVariants as types
 use Rattle.dccp_states.specs.declared.phase.Phase.{Phase}
 use Rattle.dccp_states.specs.declared.phase.Phase.TheVariants as phases
 use Rattle.two_ends.proofs.OfMarks.MarkReaching.{joined}
-use Rattle.two_ends.proofs.OfMarks.MarkSets.{raised_are}
+use Rattle.two_ends.proofs.OfMarks.MarkSets.{number_fits, raised_are}
 use Rattle.two_ends.proofs.OfMarks.MarkSteps.{Kept}
 use Rattle.two_ends.specs.MarkMoves.{MarkMoves, ack_frame, other_frame, with_floor, with_sent_frame}
 use Rattle.two_ends.specs.MarkMoves.MarkMove.{Acks as AcksFrame, Raises, Sends}
@@ -58,9 +58,6 @@ connected-live : (ph : Phase) → is_connected ph ≡ true → is_live ph ≡ tr
 connected-live phases.PartOpen is = refl
 connected-live phases.Open is = refl
 connected-live _ is = cc is
-
-number-fits : (iss n : ℕ) → number_of iss n < 2 ^ 48
-number-fits iss n = omega arith
 
 number-next : (iss n : ℕ) → 1 ≤ n → residue (number_of iss n + 1) ≡ number_of iss (n + 1)
 number-next iss n some = omega arith
@@ -114,7 +111,7 @@ module _ (act : Act) (own : IsOrdered act.side) (peer_ordered : IsOrdered act.pe
         let count : ℕ = (frame_at peer.frames (suc from.place)).acknowledged in
         let read : Some number ≡ Some (number_of own_iss count) =
         sym acks ∙ from.read.ack
-        ∙ ack-kept from.logged.draft.kind (number_of own_iss count) frame.long (frame.acknowledges is_ack) (number-fits own_iss count) in
+        ∙ ack-kept from.logged.draft.kind (number_of own_iss count) frame.long (frame.acknowledges is_ack) (number_fits own_iss count) in
         let same : number ≡ number_of own_iss count = same_Some number (number_of own_iss count) read in
         record {
           count = suc from.place;

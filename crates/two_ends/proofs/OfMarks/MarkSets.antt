@@ -19,7 +19,7 @@ pub same-counts : (iss one other : ℕ) → iss < 2 ^ 48 → 1 ≤ one → one �
     → (number_of iss one == number_of iss other) ≡ (other == one)
 same-counts iss one other fits some early others_some others_early = grind arith
 
-number_fits : (iss n : ℕ) → number_of iss n < 2 ^ 48
+pub number_fits : (iss n : ℕ) → number_of iss n < 2 ^ 48
 number_fits iss n = omega arith
 
 inside : (floor count m : ℕ) (known : Bool) → floor ≤ count

@@ -115,7 +115,7 @@ held-with : (This : Party → Party → Type 0) (w : WorldState) (logs : Side �
 held-with This w logs Client x both = record { logs = with_log logs Client x.log; holds = both }
 held-with This w logs Server x both = record { logs = with_log logs Server x.log; holds = (both.1, both.0) }
 
-moved-after : {Answer : Type 0} (half : Half) (arrived : Option ℕ) (step : Step Answer) (f : Effect) → step.after ≡ end_after half.end f
+pub moved-after : {Answer : Type 0} (half : Half) (arrived : Option ℕ) (step : Step Answer) (f : Effect) → step.after ≡ end_after half.end f
     → step.frame ≡ frame_by half.end f f.sending → moved half arrived step ≡ half_after half arrived f
 moved-after half arrived step f after frame =
     ap (λ (e : EndState). half_with half.frames e (half.processed ++ newly_processed half.end arrived e) step.frame) after

@@ -241,7 +241,7 @@ arrives-by w side frame false false after same =
     unless-by w side (half_steps (half_of w side) (Some frame.number) (Arrives frame.bytes)) false after same
 
 -- a side has the state that it takes
-half-with : (w : WorldState) (side : Side) (half : Half) → half_of (with_half w side half) side ≡ half
+pub half-with : (w : WorldState) (side : Side) (half : Half) → half_of (with_half w side half) side ≡ half
 half-with w Client half = refl
 half-with w Server half = refl
 

@@ -1,6 +1,5 @@
 -- What is sought from each place on is sought among all parts.
 use Rattle.std.proofs.Common.{arith, rules, ◌≡◌, sym, ap, ◌∙◌, ℕ, ◌+◌, ◌-◌, ◌≤◌, ◌<◌, List, length}
-use Rattle.capture_reader.specs.Format.{ordered_number_at}
 use Rattle.bridge_links.specs.Logs.{payload_from}
 use Rattle.bridge_links.proofs.Walks.{payload_here, payload_none, payload_short, payload_step}
 use Rattle.bridge_links.proofs.logs.payload_place.Goals as goal

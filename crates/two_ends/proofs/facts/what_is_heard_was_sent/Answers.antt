@@ -1,8 +1,6 @@
 use Rattle.std.proofs.Common.{◌≡◌, ap, sym, ◌∙◌, subst, inl, inr, ℕ, ◌<◌, ◌≤◌, true, arith}
-use Rattle.dccp_endpoint.specs.End.{is_live}
 use Rattle.world_events.specs.Actors.{other}
 use Rattle.world_events.specs.declared.event.Side.{Side}
-use Rattle.seq_circle.specs.Circle.{residue}
 use Rattle.two_ends.specs.Numbered.{Facts, Hears}
 use Rattle.two_ends.specs.Placed.{count_of_own_numbers}
 use Rattle.two_ends.specs.World.{WorldState, half_of}
