@@ -5,11 +5,11 @@ use Rattle.tool_text.specs.Kinds.{IsExactKind, is_whole_word, named_in}
 use Rattle.tool_text.specs.Rows.{IsExactRow, ◌▷◌, end_row}
 use Rattle.tool_text.proofs.KindLaws.{names-is, number-is}
 use Rattle.tool_text.proofs.RowLaws.{as-is, both-is, choice-is, end-is}
-use Rattle.tool_jobs.specs.declared.ecn.names.Form.{Form}
-use Rattle.tool_jobs.specs.declared.ecn.names.Form.TheVariants as form
+use Rattle.tool_jobs.specs.declared.ecn.names.EcnForm.{EcnForm}
+use Rattle.tool_jobs.specs.declared.ecn.names.EcnForm.TheVariants as form
 use Rattle.tool_jobs.specs.Forms.{ecn_form_kind, ecn_form_name, ecn_forms, ecn_row, ecn_rows, index_kind, nonce_kind}
 
-form-found : (which : Form) → named_in ecn_form_name ecn_forms (ecn_form_name which) ≡ Some which
+form-found : (which : EcnForm) → named_in ecn_form_name ecn_forms (ecn_form_name which) ≡ Some which
 form-found form.Send = refl
 form-found form.Deliver = refl
 form-found form.Mark = refl
@@ -17,7 +17,7 @@ form-found form.Report = refl
 form-found form.Check = refl
 form-found form.Forge = refl
 
-form-words : (which : Form) → is_whole_word (ecn_form_name which) ≡ true
+form-words : (which : EcnForm) → is_whole_word (ecn_form_name which) ≡ true
 form-words form.Send = refl
 form-words form.Deliver = refl
 form-words form.Mark = refl
@@ -34,7 +34,7 @@ nonce-is = both-is nonce_kind end_row (number-is 2 (omega arith)) end-is
 index-is : IsExactRow (index_kind ▷ end_row)
 index-is = both-is index_kind end_row (number-is (2 ^ 47) (omega arith)) end-is
 
-rows-are : (which : Form) → IsExactRow (ecn_rows which)
+rows-are : (which : EcnForm) → IsExactRow (ecn_rows which)
 rows-are form.Send = as-is (λ s. event.Send (s.0 == 1)) (nonce_kind ▷ end_row) nonce-is
 rows-are form.Deliver = as-is (λ s. event.Deliver s.0) (index_kind ▷ end_row) index-is
 rows-are form.Mark = as-is (λ s. event.Mark s.0) (index_kind ▷ end_row) index-is

@@ -6,11 +6,11 @@ use Rattle.tool_text.specs.declared.words.faults.LineFault.{LineFault}
 use Rattle.tool_text.specs.Kinds.{KindOfWords, name_kind, number_kind}
 use Rattle.tool_text.specs.Rows.{WordRow, ◌▷◌, choice, end_row, row_as}
 use Rattle.tool_text.specs.Lines.{line_read}
-use Rattle.tool_jobs.specs.declared.ecn.names.Form.{Form}
-use Rattle.tool_jobs.specs.declared.ecn.names.Form.TheVariants as form
+use Rattle.tool_jobs.specs.declared.ecn.names.EcnForm.{EcnForm}
+use Rattle.tool_jobs.specs.declared.ecn.names.EcnForm.TheVariants as form
 
 -- the first word of a line of `ecn`, which says what the line is
-abbrev pub ecn_form_name : Form → List ℕ
+abbrev pub ecn_form_name : EcnForm → List ℕ
 ecn_form_name form.Send = codes "send"
 ecn_form_name form.Deliver = codes "deliver"
 ecn_form_name form.Mark = codes "mark"
@@ -19,11 +19,11 @@ ecn_form_name form.Check = codes "check"
 ecn_form_name form.Forge = codes "forge"
 
 -- all first words of lines of `ecn`
-abbrev pub ecn_forms : List Form
+abbrev pub ecn_forms : List EcnForm
 ecn_forms = form.Send ∷ form.Deliver ∷ form.Mark ∷ form.Report ∷ form.Check ∷ form.Forge ∷ []
 
 -- the first word of a line, as a kind of words
-abbrev pub ecn_form_kind : KindOfWords Form
+abbrev pub ecn_form_kind : KindOfWords EcnForm
 ecn_form_kind = name_kind ecn_form_name ecn_forms
 
 -- a nonce: 0 or 1
@@ -35,7 +35,7 @@ abbrev pub index_kind : KindOfWords ℕ
 index_kind = number_kind (2 ^ 47)
 
 -- The rows after the first word, by the form that it names.
-abbrev pub ecn_rows : Form → WordRow EcnEvent
+abbrev pub ecn_rows : EcnForm → WordRow EcnEvent
 ecn_rows form.Send = row_as (λ s. event.Send (s.0 == 1)) (nonce_kind ▷ end_row)
 ecn_rows form.Deliver = row_as (λ s. event.Deliver s.0) (index_kind ▷ end_row)
 ecn_rows form.Mark = row_as (λ s. event.Mark s.0) (index_kind ▷ end_row)

@@ -7,7 +7,7 @@ use tool_text::Name;
 
 /// A line's form, by its first word (own).
 #[derive(Clone, Copy)]
-pub(crate) enum Form {
+pub(crate) enum EcnForm {
     Send,
     Deliver,
     Mark,
@@ -17,30 +17,30 @@ pub(crate) enum Form {
 }
 
 // The form that begins with the word.
-fn form_named(word: &[u8]) -> Option<Form>
+fn form_named(word: &[u8]) -> Option<EcnForm>
     ensures { result ≡ named_in ecn_form_name ecn_forms word.now }
 {
     if word == b"send".as_slice() {
-        Some(Form::Send)
+        Some(EcnForm::Send)
     } else if word == b"deliver".as_slice() {
-        Some(Form::Deliver)
+        Some(EcnForm::Deliver)
     } else if word == b"mark".as_slice() {
-        Some(Form::Mark)
+        Some(EcnForm::Mark)
     } else if word == b"report".as_slice() {
-        Some(Form::Report)
+        Some(EcnForm::Report)
     } else if word == b"check".as_slice() {
-        Some(Form::Check)
+        Some(EcnForm::Check)
     } else if word == b"forge".as_slice() {
-        Some(Form::Forge)
+        Some(EcnForm::Forge)
     } else {
         None
     }
 }
 
-impl Name for Form {
+impl Name for EcnForm {
     ghost named = { named_in ecn_form_name ecn_forms };
 
-    fn of_name(word: &[u8]) -> Option<Form> {
+    fn of_name(word: &[u8]) -> Option<EcnForm> {
         form_named(word)
     }
 }

@@ -2,7 +2,7 @@
 ghost use Rattle.std.specs.Prelude.{◌≡◌, ◌≤◌, length, OnOk};
 ghost use Rattle.tool_jobs.specs.Forms as spec;
 
-use crate::ecn::names::Form;
+use crate::ecn::names::EcnForm;
 use dccp_ecn::EcnEvent;
 use tool_text::{Below, LineFault, NameWord, WordRow, Words, read_line, read_word};
 
@@ -24,28 +24,28 @@ impl<'a> WordRow<'a> for EcnLine {
     ghost said = { spec.ecn_row.said };
 
     fn read(words: &mut Words<'a>) -> Result<EcnEvent, LineFault> {
-        match read_word::<NameWord<Form>>(words.next_word())? {
-            Form::Send => {
+        match read_word::<NameWord<EcnForm>>(words.next_word())? {
+            EcnForm::Send => {
                 let (nonce, ()) = <NonceWord>::read(words)?;
                 Ok(EcnEvent::Send(nonce == 1))
             }
-            Form::Deliver => {
+            EcnForm::Deliver => {
                 let (index, ()) = <IndexWord>::read(words)?;
                 Ok(EcnEvent::Deliver(index))
             }
-            Form::Mark => {
+            EcnForm::Mark => {
                 let (index, ()) = <IndexWord>::read(words)?;
                 Ok(EcnEvent::Mark(index))
             }
-            Form::Report => {
+            EcnForm::Report => {
                 <() as WordRow>::read(words)?;
                 Ok(EcnEvent::Report)
             }
-            Form::Check => {
+            EcnForm::Check => {
                 let (index, ()) = <IndexWord>::read(words)?;
                 Ok(EcnEvent::Check(index))
             }
-            Form::Forge => {
+            EcnForm::Forge => {
                 let (index, ()) = <IndexWord>::read(words)?;
                 Ok(EcnEvent::Forge(index))
             }
