@@ -12,8 +12,8 @@ use Rattle.bridge_records.specs.Pieces.{GoesThroughPieces, PieceWork, Stops, by_
 use Rattle.bridge_records.specs.Turns.{KeepsBlock, LeavesText, PieceState, TurnsPiece}
 use Rattle.bridge_records.specs.declared.pieces.fault.PieceFault.{PieceFault}
 use Rattle.bridge_records.specs.declared.pieces.loops.PiecesEnd.{PiecesEnd}
-use Rattle.bridge_records.specs.declared.pieces.turns.Turn.{Turn}
-use Rattle.bridge_records.specs.declared.pieces.turns.Turn.TheVariants as turn
+use Rattle.bridge_records.specs.declared.pieces.turns.PieceTurn.{PieceTurn}
+use Rattle.bridge_records.specs.declared.pieces.turns.PieceTurn.TheVariants as turn
 use Rattle.bridge_records.proofs.Along.{Along, along-first, along-moved, along-piece, refused-here, through-early, through-last}
 
 -- where the input is in a turn
@@ -97,12 +97,12 @@ module _ {S K P V : Type 0} (left : S → Option (List ℕ)) (faults : S → ℕ
         (taken output) input (unrefused_pieces ended.Memory) last along
         (inr (inr refl)) (unwritten text (taken output) (taken output) refl))
 
-    module _ (new : PieceState S V) (t : Turn) (keeps : KeepsBlock faults (standing source ahead state text) new)
+    module _ (new : PieceState S V) (t : PieceTurn) (keeps : KeepsBlock faults (standing source ahead state text) new)
         (turns : TurnsPiece left faults job given (standing source ahead state text) new (Ok t)) where
       -- more of the input was read
       pub read-on : t ≡ turn.Read → InPieces left faults taken failed empty job start first opened new.state new.source new.ahead output new.text given
       read-on is =
-          let read = subst (λ (s : Turn). TurnsPiece left faults job given (standing source ahead state text) new (Ok s)) is turns in
+          let read = subst (λ (s : PieceTurn). TurnsPiece left faults job given (standing source ahead state text) new (Ok s)) is turns in
           record {
             size = keeps.same_size ∙ before.size;
             fits = subst (λ (n : ℕ). length new.ahead.pending ≤ n) (keeps.same_size ∙ before.size) keeps.fits;
@@ -122,7 +122,7 @@ module _ {S K P V : Type 0} (left : S → Option (List ℕ)) (faults : S → ℕ
       pub taken-on : (used : ℕ) → t ≡ turn.Taken used
           → InPieces left faults taken failed empty job start first opened new.state new.source new.ahead output new.text (given + used)
       taken-on used is =
-          let piece = subst (λ (s : Turn). TurnsPiece left faults job given (standing source ahead state text) new (Ok s)) is turns in
+          let piece = subst (λ (s : PieceTurn). TurnsPiece left faults job given (standing source ahead state text) new (Ok s)) is turns in
           record {
             size = keeps.same_size ∙ before.size;
             fits = subst (λ (n : ℕ). length new.ahead.pending ≤ n) (keeps.same_size ∙ before.size) keeps.fits;
@@ -173,14 +173,14 @@ module _ {S K P V : Type 0} (left : S → Option (List ℕ)) (faults : S → ℕ
       over end later result is leaves =
           IfSome_then (left first) before.along (λ (input : List ℕ) along.
           over-by end later result input
-          (subst (λ (s : Turn). TurnsPiece left faults job given (standing source ahead state text) new (Ok s)) is turns) leaves along)
+          (subst (λ (s : PieceTurn). TurnsPiece left faults job given (standing source ahead state text) new (Ok s)) is turns) leaves along)
 
       -- the source failed
       pub turned-off : (later : Option (List ℕ)) (out : List ℕ) (result : JobEnd) → t ≡ turn.Failed → out ≡ new.text → result ≡ ended.Read
           → HasBegun (taken output) later out
           → (last : V) → Through new.source later (unrefused_pieces result) last
       turned-off later out result is same read begun last =
-          let failed_now = subst (λ (s : Turn). TurnsPiece left faults job given (standing source ahead state text) new (Ok s)) is turns in
+          let failed_now = subst (λ (s : PieceTurn). TurnsPiece left faults job given (standing source ahead state text) new (Ok s)) is turns in
           IfSome_then (left first) before.along (λ (input : List ℕ) along.
           through-early job start state given (ahead_of ahead (left source)) (left new.source) text (taken opened) (taken output) later input (unrefused_pieces result) last along
           (inl read) (subst (HasBegun (taken output) later) (same ∙ failed_now.0) begun))

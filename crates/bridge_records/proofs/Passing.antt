@@ -30,8 +30,8 @@ use Rattle.bridge_records.specs.Recording.{GoesOverRecords, RecordWork, RecordsS
 use Rattle.bridge_records.specs.declared.pieces.loops.PiecesEnd.{PiecesEnd}
 use Rattle.bridge_records.specs.declared.recording.CaptureRefusal.{CaptureRefusal}
 use Rattle.bridge_records.specs.declared.recording.RecordsEnd.{RecordsEnd}
-use Rattle.bridge_records.specs.declared.reading.Place.{Place}
-use Rattle.bridge_records.specs.declared.reading.Place.TheVariants as place
+use Rattle.bridge_records.specs.declared.reading.FilePlace.{FilePlace}
+use Rattle.bridge_records.specs.declared.reading.FilePlace.TheVariants as place
 use Rattle.bridge_records.proofs.Opening.{IsTaken, header-taken}
 
 -- what a job does with these records, one after the other
@@ -110,7 +110,7 @@ module _ {P V : Type 0} (work : RecordWork P V) (format : Format) where
   pieces = records_work work
 
   -- where a classic capture stands
-  abbrev file : Place → FileState
+  abbrev file : FilePlace → FileState
   file there = record { place = there; interfaces = []; nanos = None; skips = no_skips }
 
   -- before a header, and before the bytes of a record, after so many

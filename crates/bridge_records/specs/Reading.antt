@@ -24,19 +24,19 @@ use Rattle.bridge_records.specs.declared.blocks.BlockHead.{BlockHead}
 use Rattle.bridge_records.specs.declared.content.Content.{Content}
 use Rattle.bridge_records.specs.declared.content.Content.TheVariants.{Begins, Holds}
 use Rattle.bridge_records.specs.declared.interfaces.Interface.{Interface}
-use Rattle.bridge_records.specs.declared.reading.Place.{Place}
-use Rattle.bridge_records.specs.declared.reading.Place.TheVariants as place
+use Rattle.bridge_records.specs.declared.reading.FilePlace.{FilePlace}
+use Rattle.bridge_records.specs.declared.reading.FilePlace.TheVariants as place
 
 -- Where reading stands: which piece is next, the interfaces of the section, once a pcapng file's first interface was
 -- read, whether fractions are nanoseconds, and what was skipped.
 pub record FileState : Type 0 where
-  pub place : Place
+  pub place : FilePlace
   pub interfaces : List Interface
   pub nanos : Option Bool
   pub skips : Skips
 
 -- each piece has some bytes, and not too many
-abbrev pub FitsPlace : Place → Type 0
+abbrev pub FitsPlace : FilePlace → Type 0
 FitsPlace place.Start = ⊤
 FitsPlace (place.Header format) = ⊤
 FitsPlace (place.Body format head) = (1 ≤ head.captured) × (head.captured ≤ 262144)
@@ -50,7 +50,7 @@ abbrev pub first_file : FileState
 first_file = record { place = place.Start; interfaces = []; nanos = None; skips = no_skips }
 
 -- the same elsewhere
-abbrev pub at : FileState → Place → FileState
+abbrev pub at : FileState → FilePlace → FileState
 at file there = record file { place = there }
 
 -- the same with one packet more whose link type is not known
@@ -71,7 +71,7 @@ abbrev pub passing_noted : FileState → BlockHead → FileState
 passing_noted file head = if is_read_block head.kind then long_noted file head.total else block_noted file head.kind
 
 -- how many bytes the next piece has
-abbrev pub next_length : Place → ℕ
+abbrev pub next_length : FilePlace → ℕ
 next_length place.Start = 24
 next_length (place.Header format) = 16
 next_length (place.Body format head) = head.captured
@@ -81,7 +81,7 @@ next_length (place.Rest order head) = head.total - 12
 next_length (place.Passing order total left) = min left 524288
 
 -- the input may end between two records or blocks
-abbrev pub is_between : Place → Bool
+abbrev pub is_between : FilePlace → Bool
 is_between place.Start = false
 is_between (place.Header format) = true
 is_between (place.Body format head) = false
@@ -91,7 +91,7 @@ is_between (place.Rest order head) = false
 is_between (place.Passing order total left) = false
 
 -- no interface told whether fractions are nanoseconds, where blocks are read
-abbrev pub untold_at : Place → Option Bool → Bool
+abbrev pub untold_at : FilePlace → Option Bool → Bool
 untold_at (place.Block order) None = true
 untold_at (place.Block order) (Some nanos) = false
 untold_at place.Start nanos = false
@@ -259,7 +259,7 @@ by_passing file order total left piece =
     else Goes None (at file (place.Block order))
 
 -- what a piece comes to, by where it stands
-abbrev pub judged_at : Place → FileState → List ℕ → Judgement Content FileState
+abbrev pub judged_at : FilePlace → FileState → List ℕ → Judgement Content FileState
 judged_at place.Start file piece = by_start file piece
 judged_at (place.Header format) file piece = by_header file format (record_header format.order piece)
 judged_at (place.Body format head) file piece = Goes (Some (Holds format.link head 0)) (at file (place.Header format))

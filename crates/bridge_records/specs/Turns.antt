@@ -7,8 +7,8 @@ use Rattle.tool_text.specs.Ends.{HasBegun, HasTaken, IsAnswered, IsCutOff}
 use Rattle.tool_text.specs.declared.output.status.JobEnd.{JobEnd}
 use Rattle.tool_text.specs.declared.output.status.JobEnd.TheVariants as ended
 use Rattle.bridge_records.specs.Pieces.{JudgesPiece, PieceWork, Stops, by_next_piece, most_piece_bytes, next_piece}
-use Rattle.bridge_records.specs.declared.pieces.turns.Turn.{Turn}
-use Rattle.bridge_records.specs.declared.pieces.turns.Turn.TheVariants as turn
+use Rattle.bridge_records.specs.declared.pieces.turns.PieceTurn.{PieceTurn}
+use Rattle.bridge_records.specs.declared.pieces.turns.PieceTurn.TheVariants as turn
 
 -- The source and the bytes ahead of their use, and where the input stands.
 pub record PieceState (S V : Type 0) : Type 0 where
@@ -41,7 +41,7 @@ pub record TakesPiece {S P V : Type 0} (job : PieceWork P V) (given count : ℕ)
 
 -- One turn: more of the input was read, or the next piece was judged and accepted, or the input is at its end or
 -- refused, or the source failed, and else nothing changed.
-abbrev pub TurnsPiece : {S P V : Type 0} → (S → Option (List ℕ)) → (S → ℕ) → PieceWork P V → ℕ → PieceState S V → PieceState S V → Result Turn no_memory.NoMemory → Type 0
+abbrev pub TurnsPiece : {S P V : Type 0} → (S → Option (List ℕ)) → (S → ℕ) → PieceWork P V → ℕ → PieceState S V → PieceState S V → Result PieceTurn no_memory.NoMemory → Type 0
 TurnsPiece left faults job given old new (Ok turn.Read) = SameStanding left old new × (length old.ahead.pending < length new.ahead.pending)
 TurnsPiece left faults job given old new (Ok (turn.Taken used)) = TakesPiece job given used old new
 TurnsPiece left faults job given old new (Ok (turn.Over None)) =

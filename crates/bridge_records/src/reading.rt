@@ -27,7 +27,7 @@ const EMPTY: u32 = 12;
 
 /// Which piece of a capture comes next.
 #[derive(Clone, Copy)]
-pub(crate) enum Place {
+pub(crate) enum FilePlace {
     /// The file header of a classic capture, or the first 24 bytes of a pcapng file.
     Start,
     /// The header of a record.
@@ -48,7 +48,7 @@ pub(crate) enum Place {
 /// section, what is known of fractions, and what was skipped.
 #[derive(Drop)]
 pub(crate) struct CaptureFile {
-    place: Place,
+    place: FilePlace,
     interfaces: Vec<Interface>,
     nanos: Option<bool>,
     skips: Skips,
@@ -73,7 +73,7 @@ impl CaptureFile {
         ensures { result ≡ first_file }
     {
         CaptureFile {
-            place: Place::Start,
+            place: FilePlace::Start,
             interfaces: Vec::new(alloc),
             nanos: None,
             skips: Skips::none(),
@@ -87,13 +87,13 @@ impl CaptureFile {
         ensures fits { result ≤ 524288 }
     {
         match self.place {
-            Place::Start => 24,
-            Place::Header(_) => 16,
-            Place::Body(_, head) => head.captured as usize,
-            Place::Section(_, total) => total as usize - 24,
-            Place::Block(_) => EMPTY as usize,
-            Place::Rest(_, head) => (head.total - EMPTY) as usize,
-            Place::Passing(_, _, left) => left.min(MOST_BLOCK) as usize,
+            FilePlace::Start => 24,
+            FilePlace::Header(_) => 16,
+            FilePlace::Body(_, head) => head.captured as usize,
+            FilePlace::Section(_, total) => total as usize - 24,
+            FilePlace::Block(_) => EMPTY as usize,
+            FilePlace::Rest(_, head) => (head.total - EMPTY) as usize,
+            FilePlace::Passing(_, _, left) => left.min(MOST_BLOCK) as usize,
         }
     }
 
@@ -101,14 +101,14 @@ impl CaptureFile {
     pub(crate) fn may_end(&self) -> bool
         ensures { result ≡ spec.is_between self.now.place }
     {
-        matches!(self.place, Place::Header(_) | Place::Block(_))
+        matches!(self.place, FilePlace::Header(_) | FilePlace::Block(_))
     }
 
     /// Tells whether blocks were read, and no interface among them, which would tell whether fractions are nanoseconds.
     pub(crate) fn is_untold(&self) -> bool
         ensures { result ≡ spec.is_untold self.now }
     {
-        matches!(self.place, Place::Block(_)) && self.nanos.is_none()
+        matches!(self.place, FilePlace::Block(_)) && self.nanos.is_none()
     }
 
     /// Reads the next piece. What it holds is answered, if it holds anything. A piece that is refused changes nothing.
@@ -118,13 +118,15 @@ impl CaptureFile {
         ensures { ReadsOrLacks (file_judged self.old piece.now) piece.now self.old self.new result }
     {
         match self.place {
-            Place::Start => Ok(self.begin(piece)?),
-            Place::Header(format) => Ok(self.read_header(format, piece)?),
-            Place::Body(format, head) => Ok(self.end_record(format, head)?),
-            Place::Section(order, total) => Ok(self.end_section(order, total, piece)?),
-            Place::Block(order) => Ok(self.begin_block(order, piece)?),
-            Place::Rest(order, head) => self.end_block(order, head, piece),
-            Place::Passing(order, total, left) => Ok(self.pass_over(order, total, left, piece)?),
+            FilePlace::Start => Ok(self.begin(piece)?),
+            FilePlace::Header(format) => Ok(self.read_header(format, piece)?),
+            FilePlace::Body(format, head) => Ok(self.end_record(format, head)?),
+            FilePlace::Section(order, total) => Ok(self.end_section(order, total, piece)?),
+            FilePlace::Block(order) => Ok(self.begin_block(order, piece)?),
+            FilePlace::Rest(order, head) => self.end_block(order, head, piece),
+            FilePlace::Passing(order, total, left) => Ok(self.pass_over(
+                order, total, left, piece,
+            )?),
         }
     }
 
@@ -178,7 +180,7 @@ impl CaptureFile {
             return self.begin_section(piece);
         }
         let format = classic_format(piece)?;
-        self.place = Place::Header(format);
+        self.place = FilePlace::Header(format);
         Ok(Some(Content::Begins(format.nanos)))
     }
 
@@ -197,7 +199,7 @@ impl CaptureFile {
         if !is_section_version(order, 12, piece) {
             return Err(PieceFault::BadVersion);
         }
-        self.place = Place::Section(order, total);
+        self.place = FilePlace::Section(order, total);
         Ok(None)
     }
 
@@ -213,16 +215,16 @@ impl CaptureFile {
         if head.captured == 0 {
             return self.end_record(format, head);
         }
-        self.place = Place::Body(format, head);
+        self.place = FilePlace::Body(format, head);
         Ok(None)
     }
 
     // The bytes of a record.
     fn end_record(&mut self, format: Format, head: RecordHeader) -> Answer
-        ensures at { self.new ≡ spec.at self.old (Place.Header format) }
+        ensures at { self.new ≡ spec.at self.old (FilePlace.Header format) }
         ensures found { result ≡ Ok (Some (Content.Holds format.link head 0)) }
     {
-        self.place = Place::Header(format);
+        self.place = FilePlace::Header(format);
         Ok(Some(Content::Holds(format.link, head, 0)))
     }
 
@@ -234,7 +236,7 @@ impl CaptureFile {
         if !ends_block(order, total, piece) {
             return Err(PieceFault::BadBlock);
         }
-        self.place = Place::Block(order);
+        self.place = FilePlace::Block(order);
         Ok(None)
     }
 
@@ -249,21 +251,21 @@ impl CaptureFile {
         let head = block_head(order, piece);
         if is_passed_over(&head) {
             self.note_passing(&head);
-            self.place = Place::Passing(order, head.total, head.total - EMPTY);
+            self.place = FilePlace::Passing(order, head.total, head.total - EMPTY);
             return Ok(None);
         }
         if let Some(fault) = length_fault(EMPTY, head.total) {
             return Err(fault);
         }
         if head.total != EMPTY {
-            self.place = Place::Rest(order, head);
+            self.place = FilePlace::Rest(order, head);
             return Ok(None);
         }
         if is_read_block(head.kind) || head.first != EMPTY {
             return Err(PieceFault::BadBlock);
         }
         self.note_block(head.kind);
-        self.place = Place::Block(order);
+        self.place = FilePlace::Block(order);
         Ok(None)
     }
 
@@ -274,13 +276,13 @@ impl CaptureFile {
         ensures { ReadsPiece (spec.by_passing self.old order total left piece.now) piece.now self.old self.new result }
     {
         if MOST_BLOCK < left {
-            self.place = Place::Passing(order, total, left - MOST_BLOCK);
+            self.place = FilePlace::Passing(order, total, left - MOST_BLOCK);
             return Ok(None);
         }
         if !ends_block(order, total, piece) {
             return Err(PieceFault::BadBlock);
         }
-        self.place = Place::Block(order);
+        self.place = FilePlace::Block(order);
         Ok(None)
     }
 
@@ -306,7 +308,7 @@ impl CaptureFile {
             PACKET => Ok(self.enhanced(order, front_of(order, head.first), piece)?),
             _ => {
                 self.note_block(head.kind);
-                self.place = Place::Block(order);
+                self.place = FilePlace::Block(order);
                 Ok(None)
             }
         }
@@ -323,7 +325,7 @@ impl CaptureFile {
             return Err(PieceFault::BadVersion);
         }
         self.interfaces.clear();
-        self.place = Place::Block(order);
+        self.place = FilePlace::Block(order);
         Ok(None)
     }
 
@@ -351,14 +353,14 @@ impl CaptureFile {
         ensures { ReadsOrLacks (spec.by_interface_block self.old order first piece.now) piece.now self.old self.new result }
     {
         if MOST_INTERFACES <= self.interfaces.len() {
-            self.place = Place::Block(order);
+            self.place = FilePlace::Block(order);
             return Ok(None);
         }
         let interface = interface_of(order, first, piece)?;
         if self.interfaces.push(interface).is_err() {
             return Err(PieceError::NoMemory);
         }
-        self.place = Place::Block(order);
+        self.place = FilePlace::Block(order);
         Ok(self.begin_capture(&interface))
     }
 
@@ -391,7 +393,7 @@ impl CaptureFile {
         if piece.len() < start + head.captured as usize + 4 {
             return Err(PieceFault::BadBlock);
         }
-        self.place = Place::Block(order);
+        self.place = FilePlace::Block(order);
         if MOST_CAPTURED < head.captured as usize {
             self.note_long(head.captured);
             return Ok(None);

@@ -8,7 +8,7 @@ ghost use Rattle.bridge_records.specs.Turns.{LeavesText};
 use crate::blocks::MOST_BLOCK;
 use crate::pieces::fault::PieceFault;
 use crate::pieces::job::PieceJob;
-use crate::pieces::turns::{Turn, take_turn};
+use crate::pieces::turns::{PieceTurn, take_turn};
 use dccp_io::{ReadAhead, Sink, Source, write_all};
 use seq_circle::NoMemory;
 use std::alloc::Global;
@@ -63,15 +63,15 @@ fn take_pieces<J: PieceJob, S: Source, K: Sink>(
             };
         }
         match take_turn(job, source, ahead, given, text) {
-            Ok(Turn::Read) => {}
-            Ok(Turn::Taken(used)) => given += used as u64,
-            Ok(Turn::Over(fault)) => {
+            Ok(PieceTurn::Read) => {}
+            Ok(PieceTurn::Taken(used)) => given += used as u64,
+            Ok(PieceTurn::Over(fault)) => {
                 return PiecesEnd {
                     end: close(job, output, text, fault),
                     fault,
                 };
             }
-            Ok(Turn::Failed) => {
+            Ok(PieceTurn::Failed) => {
                 return PiecesEnd {
                     end: cut_off(output, text, JobEnd::Read),
                     fault: None,

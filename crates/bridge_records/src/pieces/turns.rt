@@ -10,7 +10,7 @@ use dccp_io::{Failed, ReadAhead, Source};
 use seq_circle::NoMemory;
 
 /// What one turn came to.
-pub(crate) enum Turn {
+pub(crate) enum PieceTurn {
     /// More of the input was read.
     Read,
     /// A piece of so many bytes was accepted.
@@ -39,7 +39,7 @@ fn read_more<J: PieceJob, S: Source>(
     ahead: &mut ReadAhead,
     given: u64,
     text: &mut Vec<u8>,
-) -> Result<Turn, NoMemory>
+) -> Result<PieceTurn, NoMemory>
     requires size { ahead.old.size ≡ 524288 }
     requires short { length ahead.old.pending < J.job.wanted job.old }
     requires wanted { J.job.wanted job.old ≤ 524288 }
@@ -52,9 +52,9 @@ fn read_more<J: PieceJob, S: Source>(
 {
     let held = ahead.len();
     match ahead.refill(source) {
-        Err(Failed) => Ok(Turn::Failed),
-        Ok(0) => Ok(Turn::Over(end_of(job, held))),
-        Ok(_) => Ok(Turn::Read),
+        Err(Failed) => Ok(PieceTurn::Failed),
+        Ok(0) => Ok(PieceTurn::Over(end_of(job, held))),
+        Ok(_) => Ok(PieceTurn::Read),
     }
 }
 
@@ -65,7 +65,7 @@ fn judge_piece<J: PieceJob, S: Source>(
     ahead: &mut ReadAhead,
     given: u64,
     text: &mut Vec<u8>,
-) -> Result<Turn, NoMemory>
+) -> Result<PieceTurn, NoMemory>
     requires some { 1 ≤ J.job.wanted job.old }
     requires there { J.job.wanted job.old ≤ length ahead.old.pending }
     requires room { given + J.job.wanted job.old ≤ most_piece_bytes }
@@ -78,9 +78,9 @@ fn judge_piece<J: PieceJob, S: Source>(
     match job.judge(&ahead.pending()[..wanted], text) {
         Ok(()) => {
             ahead.pass(wanted);
-            Ok(Turn::Taken(wanted))
+            Ok(PieceTurn::Taken(wanted))
         }
-        Err(PieceError::Refused(fault)) => Ok(Turn::Over(Some(fault))),
+        Err(PieceError::Refused(fault)) => Ok(PieceTurn::Over(Some(fault))),
         Err(PieceError::NoMemory) => Err(NoMemory),
     }
 }
@@ -93,7 +93,7 @@ pub(crate) fn take_turn<J: PieceJob, S: Source>(
     ahead: &mut ReadAhead,
     given: u64,
     text: &mut Vec<u8>,
-) -> Result<Turn, NoMemory>
+) -> Result<PieceTurn, NoMemory>
     requires size { ahead.old.size ≡ 524288 }
     requires within { given ≤ most_piece_bytes }
     requires written { length ahead.old.pending < J.job.wanted job.old → text.old.items ≡ [] }
@@ -105,7 +105,7 @@ pub(crate) fn take_turn<J: PieceJob, S: Source>(
     let wanted = job.wanted();
     let held = ahead.len();
     if 0 < held && MOST_CAPTURE_BYTES - given < wanted as u64 {
-        return Ok(Turn::Over(Some(PieceFault::TooLarge)));
+        return Ok(PieceTurn::Over(Some(PieceFault::TooLarge)));
     }
     if held < wanted {
         return read_more(job, source, ahead, given, text);
