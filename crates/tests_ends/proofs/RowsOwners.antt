@@ -1,13 +1,21 @@
 -- What an owner begins with, in which phases he times packets, and which of them he hears, computed from the definitions. The values are those of
 -- docs/PROTOCOL.md and of RFC 4340: an Ack Ratio of 2 (section 11.3), the phases in which the first packet of an end waits for its answer (sections
 -- 8.1.1 and 8.1.3), and those in which windows judge what arrives (section 8.5, steps 5 and 6).
-use Rattle.std.proofs.Common.{◌≡◌, refl, true, false, Some, None}
+use Rattle.std.proofs.Common.{◌≡◌, refl, ℕ, true, false, List, ◌∷◌, length, replicate, Some, None}
+use Rattle.data_dropped.specs.Drops.{drop_code}
+use Rattle.data_dropped.specs.declared.drops.DropEntry.{DropEntry}
 use Rattle.dccp_states.specs.declared.phase.Phase.TheVariants as phases
 use Rattle.validity_windows.specs.declared.verdict.Verdict.TheVariants.{Drop, SyncFor, Valid}
-use Rattle.dccp_uses.specs.Path.{classic_pace, is_handshake, is_open_phase, path_begins, usual_pace}
+use Rattle.dccp_uses.specs.DropRecord.{drop_recorded}
+use Rattle.dccp_uses.specs.Notice.{no_drops, no_notice}
+use Rattle.dccp_uses.specs.Path.{classic_pace, is_handshake, is_open_phase, is_probing, path_begins, patience, usual_pace}
+use Rattle.dccp_uses.specs.Reader.{asks_slower}
 use Rattle.dccp_uses.specs.Syncs.{admitted_by, admitted_within, has_windows, is_sync_verdict, noticed_if}
+use Rattle.dccp_uses.specs.Timed.{ruled_condition}
 use Rattle.dccp_uses.specs.declared.notice.Notice.{Notice}
 use Rattle.dccp_uses.specs.declared.path.Path.{Path}
+use Rattle.dccp_uses.specs.declared.sight.Sight.{Sight}
+use Rattle.feature_machine.specs.declared.stands.Stand.TheVariants as stand
 
 -- all rules, and none
 all_rules_or_none :
@@ -62,3 +70,48 @@ when_a_word_counts : (word : Notice) →
     × ((noticed_if true word (record { heard = false; path = record usual { notice = word } })).path ≡ usual)
     × ((noticed_if false word (record { heard = true; path = usual })).path ≡ usual)
 when_a_word_counts word = (refl, refl, refl)
+
+-- an open end with so many packets in flight of such a window
+abbrev flying : ℕ → ℕ → Sight
+flying in_flight window =
+    record {
+      phase = phases.Open;
+      gss = 11;
+      gar = 8;
+      gsr = 5;
+      in_flight = in_flight;
+      window = window;
+      ccid = 2;
+      ratio = record { value = 2; stand = stand.Stable };
+      width = 100;
+    }
+
+-- From a window of 16 on a question goes before the timeout, also of one packet; else rto runs.
+which_flights_are_asked_about :
+    (is_probing usual (flying 1 16) ≡ true) × (is_probing usual (flying 0 16) ≡ false) × (is_probing usual (flying 1 15) ≡ false)
+    × (ruled_condition usual (flying 1 15) ≡ record { phase = phases.Open; in_flight = true })
+    × (ruled_condition usual (flying 0 15) ≡ record { phase = phases.Open; in_flight = false })
+    × (ruled_condition usual (flying 1 16) ≡ record { phase = phases.Open; in_flight = false })
+which_flights_are_asked_about = (refl, refl, refl, refl, refl, refl)
+
+-- how long an end waits for its peer in each phase
+how_patient_an_end_is :
+    (patience phases.Closed ≡ None) × (patience phases.Listen ≡ None) × (patience phases.Request ≡ Some 180000) × (patience phases.Respond ≡ Some 240000)
+    × (patience phases.PartOpen ≡ Some 180000) × (patience phases.Open ≡ Some 180000) × (patience phases.CloseReq ≡ Some 120000)
+    × (patience phases.Closing ≡ Some 120000) × (patience phases.TimeWait ≡ None)
+how_patient_an_end_is = (refl, refl, refl, refl, refl, refl, refl, refl, refl)
+
+-- One packet that the buffer dropped has the sender go slower, as a slow receiver has.
+what_asks_to_go_slower :
+    (asks_slower no_notice ≡ false) × (asks_slower (record no_notice { drops = record no_drops { full = 1 } }) ≡ true)
+    × (asks_slower (record no_notice { slow = true }) ≡ true)
+what_asks_to_go_slower = (refl, refl, refl)
+
+-- the 2,049th drop drives the oldest out
+abbrev dropped : ℕ → List DropEntry
+dropped others = record { number = 1; code = 2 } ∷ replicate others (record { number = 2; code = 2 })
+
+the_newest_drops_are_recorded :
+    (drop_code (drop_recorded 3 7 (dropped 2046)) 1 ≡ Some 2) × (drop_code (drop_recorded 3 7 (dropped 2047)) 1 ≡ None)
+    × (drop_code (drop_recorded 3 7 (dropped 2047)) 3 ≡ Some 7) × (length (drop_recorded 3 7 (dropped 2047)) ≡ 2048)
+the_newest_drops_are_recorded = (refl, refl, refl, refl)
