@@ -1,15 +1,17 @@
 -- Rows of how a server counts its time, its limits and its refusals, computed from the definitions; the values were worked out by hand.
-use Rattle.std.proofs.Common.{◌≡◌, refl, true, false, [], ◌∷◌, Some, None}
+use Rattle.std.proofs.Common.{◌≡◌, refl, ℕ, true, false, List, [], ◌∷◌, length, replicate, Some, None}
 use Rattle.dccp_endpoint.specs.declared.config.Config.{Config}
 use Rattle.dccp_listener.specs.Runs.{HadNoMemory, Stepped, WasBusy}
 use Rattle.dccp_packets.specs.declared.header.Number.TheVariants.{Short}
 use Rattle.dccp_states.specs.declared.outcome.Outcome.TheVariants.{SentReset, Took, WasReset}
 use Rattle.dccp_states.specs.declared.seen.Seen.TheVariants.{Received}
+use Rattle.dccp_server.specs.FlowDrops.{flow_recorded}
 use Rattle.dccp_server.specs.FlowInboxes.{lies_within}
 use Rattle.dccp_server.specs.Refusals.{reset_by}
 use Rattle.dccp_server.specs.Rules.{answers_to_strangers, class_of, is_none_left, left_since, limit_in, or_else, usual_rules}
 use Rattle.dccp_server.specs.Serving.{is_refusal, wait_until}
 use Rattle.dccp_server.specs.Upkeeps.{alarm_end, earlier, on_clock, tells_data, tells_taken}
+use Rattle.dccp_server.specs.declared.flow_drops.FlowDrop.{FlowDrop}
 use Rattle.dccp_server.specs.declared.queue.Ticket.{Ticket}
 use Rattle.dccp_server.specs.declared.stage.Stage.TheVariants as stage
 
@@ -59,3 +61,11 @@ edges_of_a_datagram : (config : Config) →
     (lies_within (1 ∷ 2 ∷ []) (0, 2) ≡ true) × (lies_within (1 ∷ 2 ∷ []) (0, 3) ≡ false)
     × (lies_within (1 ∷ 2 ∷ []) (2, 1) ≡ false) × (reset_by 9 config (Short 5) ≡ None)
 edges_of_a_datagram config = (refl, refl, refl, refl)
+
+-- the 2,049th drop of all flows drives the oldest out
+abbrev dropped : ℕ → List FlowDrop
+dropped others = replicate others (record { peer = paper.peer; number = 1; code = 2 })
+
+how_many_drops_are_recorded :
+    (length (flow_recorded paper.peer 3 7 (dropped 2047)) ≡ 2048) × (length (flow_recorded paper.peer 3 7 (dropped 2048)) ≡ 2048)
+how_many_drops_are_recorded = (refl, refl)
