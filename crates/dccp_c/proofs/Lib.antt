@@ -5,3 +5,4 @@ pub mod Hearing
 pub mod ListenerAsBox
 pub mod Served
 pub mod Ticking
+mod RowsLastSyncs
