@@ -576,6 +576,13 @@ static void limits_of_a_listener(void) {
     same("a window of 31", DCCP_BAD_LIST, dccp_listener_make(&listener, &settings, NULL, 0, &wish, 1, 1));
     settings.is_v6 = true;
     same("IPv6", DCCP_NO_SUCH_LISTENER, dccp_listener_make(&listener, &settings, NULL, 0, &wish, 0, 1));
+    settings.is_v6 = false;
+    wish.feature = 10;
+    same("feature 10", DCCP_NO_FEATURE, dccp_listener_make(&listener, &settings, NULL, 0, &wish, 1, 1));
+    wish = (dccp_wish){.values = {1}, .count = 1, .feature = DCCP_FEATURE_ACK_RATIO, .at_peer = true};
+    same("the peer's ratio", DCCP_NOT_OURS, dccp_listener_make(&listener, &settings, NULL, 0, &wish, 1, 1));
+    settings.first_number = (uint64_t)1 << 48;
+    same("2^48", DCCP_NO_NUMBER, dccp_listener_make(&listener, &settings, NULL, 0, &wish, 0, 1));
     same("blocks that are kept", 0, held);
 }
 
@@ -1133,6 +1140,23 @@ static void refusals_of_a_flow(void) {
     same("blocks after free", 0, held);
 }
 
+/* Each allocation that a listener takes is refused in turn: then there is none. */
+static void memory_of_a_listener(void) {
+    dccp_settings settings = server();
+    for (unsigned at = 1;; at++) {
+        dccp_listener listener = DCCP_NO_LISTENER;
+        refused = at;
+        uint32_t status = dccp_listener_make(&listener, &settings, NULL, 0, NULL, 0, 2);
+        bool is_reached = refused == 0;
+        refused = 0;
+        same("a listener that may want memory", is_reached ? DCCP_NO_MEMORY : DCCP_OK, status);
+        same("whether there is one", !is_reached, listener.made);
+        dccp_listener_free(&listener);
+        same("blocks after free", 0, held);
+        if (!is_reached) break;
+    }
+}
+
 /* Each allocation that a flow takes is refused in turn: then there is none, nothing is left, and nothing is kept but what is allocated first:
  * the first blocks of two registers, those of lives and of timers, each of which has a queue and a map. */
 static void memory_of_a_flow(void) {
@@ -1187,6 +1211,7 @@ int main(void) {
     a_flow();
     data_of_a_flow_that_wait();
     refusals_of_a_flow();
+    memory_of_a_listener();
     memory_of_a_flow();
     return wrong;
 }
