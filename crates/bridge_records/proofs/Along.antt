@@ -17,7 +17,7 @@ use Rattle.bridge_records.specs.declared.pieces.fault.PieceFault.TheVariants.{Cu
 use Rattle.bridge_records.specs.declared.pieces.loops.PiecesEnd.{PiecesEnd}
 use Rattle.bridge_records.proofs.FirstPiece.{pieces-cut}
 
--- After so many bytes of accepted pieces, where `left` is what is left of the input and `text` was not written yet.
+-- After this many bytes of accepted pieces, where `left` is what is left of the input and `text` was not written yet.
 pub record Along {P V : Type 0} (job : PieceWork P V) (first state : V) (given : ℕ) (left : Option (List ℕ)) (text : List ℕ)
     (before after : Option (List ℕ)) (input : List ℕ) : Type 0 where
   pub written : List ℕ
@@ -39,7 +39,7 @@ module _ {P V : Type 0} (job : PieceWork P V) (first : V) where
     told = refl;
   }
 
-  -- a front of the text was written
+  -- a prefix of the text was written
   pub along-moved : (state : V) (given : ℕ) (left : Option (List ℕ)) (text kept : List ℕ) (before after later : Option (List ℕ)) (input : List ℕ)
       → Along job first state given left text before after input → IsMovedOut after later text kept → Along job first state given left kept before later input
   along-moved state given left text kept before after later input along (moved, taken, parts) = record {

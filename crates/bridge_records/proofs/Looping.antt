@@ -56,13 +56,13 @@ module _ {S K P V : Type 0} (left : S → Option (List ℕ)) (faults : S → ℕ
         (sym is) (first-along (left first));
   }
 
-  -- what the loop comes to
+  -- the result of the loop
   abbrev pub Through : S → Option (List ℕ) → PiecesEnd → V → Type 0
   Through source later result last = IfSome (left first) (λ input. GoesThroughPieces job start input result last (left source) (taken opened) later)
 
   module _ (state : V) (source : S) (ahead : BytesAhead) (output : K) (text : List ℕ) (given : ℕ)
       (before : InPieces left faults taken failed empty job start first opened state source ahead output text given) where
-    -- a front of the text was written
+    -- a prefix of the text was written
     pub moved-on : {A E : Type 0} (later : K) (kept : List ℕ) (flushed : Result A E) → OnOk flushed (IsMovedOut (taken output) (taken later) text kept)
         → is_err flushed ≡ false
         → failed output ≤ failed later → empty output ≤ empty later

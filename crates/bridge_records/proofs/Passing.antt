@@ -89,7 +89,7 @@ number-front Little at count front rest fits =
     ap (little_from 0 count) (drop-append-le at front rest (omega (arith, fits)))
     ∙ little-front count (drop at front) rest (let size = length-drop at front in omega (arith, size, fits))
 
--- no capture has so many records that their count would stay
+-- no capture has this many records that their count would stay
 few-more : (number given : ℕ) → number ≤ given → given ≤ 2 ^ 32 → one_more number ≡ number + 1
 few-more number given few counts =
     let test : nat_lt number (2 ^ 64 - 1) ≡ true = grind (arith, nat_tests) in
@@ -99,7 +99,7 @@ few-more number given few counts =
 abbrev head-of : ℕ → ℕ → ℕ → ℕ → RecordHeader
 head-of seconds fraction captured original = record { seconds = seconds; fraction = fraction; captured = captured; original = original }
 
--- what pieces come to that are these records, each handed to the job, and nothing is refused
+-- the result of pieces that are these records, each handed to the job, and nothing is refused
 record ArePassed {P V : Type 0} (work : RecordWork P V) (job : V) (entries : List RecordParts) (taken : PiecesResult P (RecordsState V)) : Type 0 where
   refusal : taken.refusal ≡ None
   deeds : taken.deeds ≡ deeds_along work job entries
@@ -124,7 +124,7 @@ module _ {P V : Type 0} (work : RecordWork P V) (format : Format) where
   abbrev entry-after : ℕ → RecordHeader → List ℕ → RecordParts
   entry-after n head bytes = numbered_entry (one_more n) format.nanos format.link head bytes
 
-  -- the pieces after a header, and what they come to
+  -- the pieces after a header, and their result
   abbrev onward : ℕ → RecordsState V → List ℕ → PiecesResult P (RecordsState V)
   onward given next bytes = pieces_from pieces 0 next given bytes
 

@@ -1,5 +1,5 @@
--- The blocks of a pcapng file (draft-ietf-opsawg-pcapng, 3 and 4.1): type, length, body, and the length once more. The
--- first block of a section tells the byte order of all its numbers.
+-- The blocks of a pcapng file (draft-ietf-opsawg-pcapng, 3 and 4.1): type, length, body, and the length once more. The first block of a section
+-- gives the byte order of all its numbers.
 use Rattle.std.specs.Prelude.{ℕ, ◌+◌, ◌-◌, ◌%◌, ◌&&◌, ◌||◌, ◌==◌, not, nat_lt, Bool, if◌then◌else◌, List, length, Option, Some, None}
 use Rattle.capture_reader.specs.Format.{ordered_number_at}
 use Rattle.capture_reader.specs.declared.format.Order.{Order}
@@ -8,7 +8,7 @@ use Rattle.bridge_records.specs.declared.pieces.fault.PieceFault.{PieceFault}
 use Rattle.bridge_records.specs.declared.pieces.fault.PieceFault.TheVariants as why
 use Rattle.bridge_records.specs.declared.blocks.BlockHead.{BlockHead}
 
--- 0a0d0d0a: the first block of a section, which reads alike in either byte order
+-- 0a0d0d0a: the first block of a section, a number that is the same in either byte order
 abbrev pub section_block : ℕ
 section_block = 168627466
 
@@ -24,7 +24,7 @@ simple_block = 3
 abbrev pub enhanced_block : ℕ
 enhanced_block = 6
 
--- the same as some wrote it before: two bytes have the interface, and two count lost packets
+-- the older form of it that some wrote: two bytes have the interface, and two count lost packets
 abbrev pub packet_block : ℕ
 packet_block = 2
 
@@ -40,27 +40,27 @@ section_order bytes =
     else if ordered_number_at Little 8 4 bytes == 439041101 then Some Little
     else None
 
--- the version at a place is 1.0, or 1.2, which some wrote for it
+-- the version at a place is 1.0, or 1.2, which some wrote instead
 abbrev pub is_section_version : Order → ℕ → List ℕ → Bool
 is_section_version order place bytes =
     ordered_number_at order place 2 bytes == 1 && (ordered_number_at order (place + 2) 2 bytes == 0 || ordered_number_at order (place + 2) 2 bytes == 2)
 
--- what is wrong with the length of a block: it has too few bytes or no whole words of four, or more than are taken
+-- what is wrong with the length of a block: it has too few bytes, no whole words of four, or too many bytes
 abbrev pub length_fault : ℕ → ℕ → Option PieceFault
 length_fault least total =
     if nat_lt total least || not (total % 4 == 0) then Some why.BadBlock
     else if nat_lt 524288 total then Some why.TooLong
     else None
 
--- blocks of these types tell how others are read
+-- blocks of these types say how others are read
 abbrev pub is_needed_block : ℕ → Bool
 is_needed_block kind = kind == section_block || kind == interface_block
 
--- any other is passed over piece by piece where it is longer than a block that is read may be
+-- any other block is skipped piece by piece if it is longer than a block may be that is read
 abbrev pub is_passed_over : BlockHead → Bool
 is_passed_over head = nat_lt 524288 head.total && (head.total % 4 == 0 && not (is_needed_block head.kind))
 
--- the byte order of a block: a section's own, or that of the section
+-- the byte order of a block: the first block of a section has its own, and any other that of the section
 abbrev pub block_order : Order → List ℕ → Option Order
 block_order order bytes = if ordered_number_at order 0 4 bytes == section_block then section_order bytes else Some order
 
@@ -72,6 +72,6 @@ block_head order bytes = record {
   first = ordered_number_at order 8 4 bytes;
 }
 
--- the length of a block stands once more in its last four bytes
+-- the length of a block is repeated in its last four bytes
 abbrev pub ends_block : Order → ℕ → List ℕ → Bool
 ends_block order total bytes = ordered_number_at order (length bytes - 4) 4 bytes == total

@@ -7,8 +7,8 @@ use Rattle.bridge_records.specs.declared.pieces.fault.PieceFault.{PieceFault}
 use Rattle.bridge_records.specs.declared.pieces.fault.PieceFault.TheVariants as why
 use Rattle.bridge_records.specs.declared.interfaces.Interface.{Interface}
 
--- the option that begins here is sought, or the list ends, at code 0 or where no option has room before the block's
--- last four bytes
+-- the option that begins here is the one that is looked for, or the list ends: at code 0, or if no option has room before the block's last four
+-- bytes
 abbrev pub by_option : Order → ℕ → ℕ → List ℕ → Option ℕ → Option ℕ
 by_option order code place bytes later =
     if nat_lt (length bytes) 8 then None
@@ -20,28 +20,27 @@ by_option order code place bytes later =
 abbrev pub option_size : Order → List ℕ → ℕ
 option_size order bytes = 4 + (ordered_number_at order 2 2 bytes + 3) / 4 * 4
 
--- the place of the first option of this code; the first `skip` bytes belong to the option before
+-- the place of the first option of this code, where the first `skip` bytes belong to the option before
 abbrev pub option_from : Order → ℕ → ℕ → ℕ → List ℕ → Option ℕ
 option_from order code place skip [] = None
 option_from order code place (suc skip) (byte ∷ bytes) = option_from order code (place + 1) skip bytes
 option_from order code place zero (byte ∷ bytes) =
     by_option order code place (byte ∷ bytes) (option_from order code (place + 1) (option_size order (byte ∷ bytes) - 1) bytes)
 
--- the same in a whole list of options
+-- the place of the first option of this code in a whole list of options
 abbrev pub option_place : Order → ℕ → List ℕ → Option ℕ
 option_place order code options = option_from order code 0 0 options
 
--- the value of an option at a place has so many bytes, and all of them are there
+-- the value of an option at a place has this many bytes, and all of them are there
 abbrev pub has_value : Order → ℕ → ℕ → List ℕ → Bool
 has_value order size place options = ordered_number_at order (place + 2) 2 options == size && not (nat_lt (length options) (place + (size + 8)))
 
--- how time is counted by the option at this place: in microseconds, if none says otherwise
+-- how time is counted by the option at this place, or in microseconds if there is none
 abbrev pub resolution_at : Order → Option ℕ → List ℕ → ℕ
 resolution_at order None options = 6
 resolution_at order (Some place) options = if has_value order 1 place options then slice_index options (place + 4) else 6
 
--- the seconds that come before all times by the option at this place, a number of 64 bits with a sign: 0, if none says
--- otherwise
+-- the seconds that come before all times by the option at this place, a number of 64 bits with a sign, or 0 if there is none
 abbrev pub offset_at : Order → Option ℕ → List ℕ → ℕ
 offset_at order None options = 0
 offset_at order (Some place) options = if has_value order 8 place options then ordered_number_at order (place + 4) 8 options else 0
@@ -70,7 +69,7 @@ interface_of order first bytes =
 abbrev pub needs_nanos : ℕ → Bool
 needs_nanos resolution = if nat_lt resolution 128 then nat_lt 6 resolution else nat_lt 134 resolution
 
--- how many units a second has: a power of ten, or of two for numbers from 128 on, where it has at most 64 bits
+-- how many units a second has: a power of ten, or of two for numbers from 128 on, if it has at most 64 bits
 abbrev pub units_of : ℕ → Option ℕ
 units_of resolution =
     if nat_lt resolution 20 then Some (10 ^ resolution)
@@ -78,7 +77,7 @@ units_of resolution =
     else if nat_lt resolution 192 then Some (2 ^ (resolution - 128))
     else None
 
--- the seconds of a time, which has so many units
+-- the seconds of a time of this many units
 abbrev pub seconds_of : ℕ → ℕ → ℕ → ℕ
 seconds_of units offset ticks = (ticks / units + offset) % 2 ^ 64 % 2 ^ 32
 

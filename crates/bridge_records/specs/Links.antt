@@ -12,11 +12,11 @@ use Rattle.capture_reader.specs.declared.format.Order.TheVariants.{Big, Little}
 abbrev pub known_links : List ℕ
 known_links = 0 ∷ 1 ∷ 9 ∷ 12 ∷ 101 ∷ 105 ∷ 108 ∷ 113 ∷ 127 ∷ 219 ∷ 228 ∷ 229 ∷ 239 ∷ 258 ∷ 276 ∷ []
 
--- what is in a file header for its link type, in either byte order
+-- the four bytes of a file header with its link type, in either byte order
 abbrev pub either_link : List ℕ → List ℕ
 either_link bytes = ordered_number_at Big 20 4 bytes ∷ ordered_number_at Little 20 4 bytes ∷ []
 
--- its low 16 bits are the link type, which has to be known; those above tell how long a frame's check sequence is
+-- the low 16 bits of it are the link type, which has to be known; the bits above say how long a frame's check sequence is
 -- (draft-ietf-opsawg-pcap, section 4)
 abbrev pub by_link : Result Format FormatFault → Result Format FormatFault
 by_link (Err why) = Err why

@@ -10,7 +10,7 @@ use Rattle.bridge_records.specs.declared.interfaces.Interface.{Interface}
 abbrev pub ticks_in : Order → List ℕ → ℕ
 ticks_in order bytes = ordered_number_at order 0 4 bytes * 2 ^ 32 + ordered_number_at order 4 4 bytes
 
--- what a record of a packet says, of an interface whose second has so many units; none where these are too many
+-- what a record of a packet says, for an interface whose second has this many units; none if these are too many
 abbrev pub enhanced_by : Option ℕ → ℕ → Bool → Order → List ℕ → Option RecordHeader
 enhanced_by None offset nanos order bytes = None
 enhanced_by (Some units) offset nanos order bytes = Some (record {
@@ -20,12 +20,11 @@ enhanced_by (Some units) offset nanos order bytes = Some (record {
   original = ordered_number_at order 12 4 bytes;
 })
 
--- the same by the interface, from what follows its number
+-- what a record of a packet says, for this interface, from the bytes after the interface's number
 abbrev pub enhanced_head : Interface → Bool → Order → List ℕ → Option RecordHeader
 enhanced_head i nanos order bytes = enhanced_by (units_of i.resolution) i.offset nanos order bytes
 
--- how many bytes of a packet of this length are there, where so many are captured at most, or any number where that is
--- 0
+-- how many bytes of a packet of this length are there, if this many are captured at most, or any number if that is 0
 abbrev pub captured_of : ℕ → ℕ → ℕ
 captured_of most original = if most == 0 then original else min original most
 

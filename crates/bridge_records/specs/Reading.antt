@@ -27,8 +27,8 @@ use Rattle.bridge_records.specs.declared.interfaces.Interface.{Interface}
 use Rattle.bridge_records.specs.declared.reading.FilePlace.{FilePlace}
 use Rattle.bridge_records.specs.declared.reading.FilePlace.TheVariants as place
 
--- Where reading stands: which piece is next, the interfaces of the section, once a pcapng file's first interface was
--- read, whether fractions are nanoseconds, and what was skipped.
+-- How far reading is: which piece is next, the interfaces of the section, whether fractions are nanoseconds (once a pcapng file's first
+-- interface was read), and what was skipped.
 pub record FileState : Type 0 where
   pub place : FilePlace
   pub interfaces : List Interface
@@ -101,7 +101,7 @@ untold_at (place.Section order total) nanos = false
 untold_at (place.Rest order head) nanos = false
 untold_at (place.Passing order total left) nanos = false
 
--- the same of a file, where it may end
+-- the same of a file at a place where it may end
 abbrev pub is_untold : FileState → Bool
 is_untold file = untold_at file.place file.nanos
 
@@ -116,14 +116,14 @@ abbrev pub by_format : FileState → Result Format FormatFault → Judgement Con
 by_format file (Err fault) = Stops (format_fault fault)
 by_format file (Ok format) = Goes (Some (Begins format.nanos)) (at file (place.Header format))
 
--- the first section, by its length: the rest of its first block comes next
+-- the first section, from its length: the rest of its first block comes next
 abbrev pub by_section_length : FileState → Order → List ℕ → ℕ → Option PieceFault → Judgement Content FileState
 by_section_length file order piece total (Some fault) = Stops fault
 by_section_length file order piece total None =
     if not (is_section_version order 12 piece) then Stops why.BadVersion
     else Goes None (at file (place.Section order total))
 
--- the same by its byte order
+-- the first section, from its byte order
 abbrev pub by_section : FileState → List ℕ → Option Order → Judgement Content FileState
 by_section file piece None = Stops why.BadMagic
 by_section file piece (Some order) =
@@ -135,7 +135,7 @@ by_start file piece =
     if ordered_number_at Big 0 4 piece == section_block then by_section file piece (section_order piece)
     else by_format file (classic_format piece)
 
--- a record's header in a classic capture: too many captured bytes are refused, none are a record, and else they are the
+-- a record's header in a classic capture: too many captured bytes are refused, no captured bytes are a record at once, and else they are the
 -- next piece
 abbrev pub by_header : FileState → Format → RecordHeader → Judgement Content FileState
 by_header file format head =
@@ -149,13 +149,13 @@ by_section_end file order total piece =
     if not (ends_block order total piece) then Stops why.BadBlock
     else Goes None (at file (place.Block order))
 
--- a block without a body is skipped, where its type wants none
+-- a block without a body is skipped, if its type needs no body
 abbrev pub by_empty : FileState → Order → BlockHead → Judgement Content FileState
 by_empty file order head =
     if is_read_block head.kind || not (head.first == 12) then Stops why.BadBlock
     else Goes None (at (block_noted file head.kind) (place.Block order))
 
--- the first bytes of a block, by its length: the rest comes next
+-- the first bytes of a block, from its length: the rest comes next
 abbrev pub by_block_length : FileState → Order → BlockHead → Option PieceFault → Judgement Content FileState
 by_block_length file order head (Some fault) = Stops fault
 by_block_length file order head None =
@@ -168,19 +168,19 @@ by_block_head file order head =
     if is_passed_over head then Goes None (at (passing_noted file head) (place.Passing order head.total (head.total - 12)))
     else by_block_length file order head (length_fault 12 head.total)
 
--- the same by its byte order
+-- the first bytes of a block, from its byte order
 abbrev pub by_block : FileState → List ℕ → Option Order → Judgement Content FileState
 by_block file piece None = Stops why.BadBlock
 by_block file piece (Some order) = by_block_head file order (block_head order piece)
 
--- a further section has interfaces of its own
+-- a further section has its own interfaces
 abbrev pub by_new_section : FileState → Order → List ℕ → Judgement Content FileState
 by_new_section file order piece =
     if nat_lt (length piece) 16 then Stops why.BadBlock
     else if not (is_section_version order 0 piece) then Stops why.BadVersion
     else Goes None (record file { place = place.Block order; interfaces = [] })
 
--- fractions are as the first interface of the file has them
+-- the first interface of the file says what fractions are
 abbrev pub begun_nanos : Option Bool → Interface → Bool
 begun_nanos (Some nanos) i = nanos
 begun_nanos None i = needs_nanos i.resolution
@@ -206,14 +206,14 @@ by_interface_block file order first piece =
     if nat_le most_interfaces (length file.interfaces) then Goes None (at file (place.Block order))
     else by_interface file order (interface_of order first piece)
 
--- a packet is a record where its bytes come before the block's last four, and are not too many
+-- a packet is a record if its bytes come before the block's last four, and are not too many
 abbrev pub by_packet : FileState → Order → ℕ → RecordHeader → ℕ → List ℕ → Judgement Content FileState
 by_packet file order link head start piece =
     if nat_lt (length piece) (start + head.captured + 4) then Stops why.BadBlock
     else if nat_lt 262144 head.captured then Goes None (at (long_noted file head.captured) (place.Block order))
     else Goes (Some (Holds link head start)) (at (link_noted file link) (place.Block order))
 
--- the same by what its record says, if its time can be told
+-- the result of a packet from what its record says, if its time is known
 abbrev pub by_head : FileState → Order → ℕ → ℕ → List ℕ → Option RecordHeader → Judgement Content FileState
 by_head file order link start piece None = Stops why.BadBlock
 by_head file order link start piece (Some head) = by_packet file order link head start piece
@@ -268,7 +268,7 @@ judged_at (place.Block order) file piece = by_block file piece (block_order orde
 judged_at (place.Rest order head) file piece = by_rest file order head piece
 judged_at (place.Passing order total left) file piece = by_passing file order total left piece
 
--- What a piece of a capture comes to: a deed of it is the capture's beginning, or a record.
+-- The result of a piece of a capture: its deed is the capture's beginning, or a record.
 abbrev pub file_judged : FileState → List ℕ → Judgement Content FileState
 file_judged file piece = judged_at file.place file piece
 
@@ -277,16 +277,16 @@ abbrev pub IsInside : Content → List ℕ → Type 0
 IsInside (Begins nanos) piece = ⊤
 IsInside (Holds link head start) piece = (start + head.captured ≤ length piece) × (head.captured ≤ 262144)
 
--- these bytes
+-- the bytes of a record that are in its piece
 abbrev pub bytes_held : RecordHeader → ℕ → List ℕ → List ℕ
 bytes_held head start piece = take head.captured (drop start piece)
 
--- A piece was read: what it comes to leads on, or nothing changed.
+-- A piece was read: the state is that of its result, or the piece is refused and nothing changed.
 abbrev pub ReadsPiece : Judgement Content FileState → List ℕ → FileState → FileState → Result (Option Content) PieceFault → Type 0
 ReadsPiece judged piece old new (Ok found) = (judged ≡ Goes found new) × IfSome found (λ f. IsInside f piece)
 ReadsPiece judged piece old new (Err fault) = (judged ≡ Stops fault) × (new ≡ old)
 
--- The same where an interface may want memory. Where none was left nothing is told.
+-- The same for a piece that may need memory for an interface. If none was left, nothing is said.
 abbrev pub ReadsOrLacks : Judgement Content FileState → List ℕ → FileState → FileState → Result (Option Content) PieceError → Type 0
 ReadsOrLacks judged piece old new (Ok found) = ReadsPiece judged piece old new (Ok found)
 ReadsOrLacks judged piece old new (Err (piece_error.Refused fault)) = ReadsPiece judged piece old new (Err fault)

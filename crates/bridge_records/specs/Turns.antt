@@ -10,26 +10,26 @@ use Rattle.bridge_records.specs.Pieces.{JudgesPiece, PieceWork, Stops, by_next_p
 use Rattle.bridge_records.specs.declared.pieces.turns.PieceTurn.{PieceTurn}
 use Rattle.bridge_records.specs.declared.pieces.turns.PieceTurn.TheVariants as turn
 
--- The source and the bytes ahead of their use, and where the input stands.
+-- The source, the bytes that are read and not yet used, and how far the input is.
 pub record PieceState (S V : Type 0) : Type 0 where
   pub source : S
   pub ahead : BytesAhead
   pub state : V
   pub text : List ℕ
 
--- what every turn keeps: the block, and that faults never fall
+-- what every turn keeps: the block, and that the count of faults never falls
 pub record KeepsBlock {S V : Type 0} (faults : S → ℕ) (old new : PieceState S V) : Type 0 where
   pub same_size : new.ahead.size ≡ old.ahead.size
   pub fits : length new.ahead.pending ≤ new.ahead.size
   pub never_falls : faults old.source ≤ faults new.source
 
--- what is still to come, and state and text, stay the same
+-- the rest of the input, the state and the text stay the same
 pub record SameStanding {S V : Type 0} (left : S → Option (List ℕ)) (old new : PieceState S V) : Type 0 where
   pub ahead : ahead_of new.ahead (left new.source) ≡ ahead_of old.ahead (left old.source)
   pub state : new.state ≡ old.state
   pub text : new.text ≡ old.text
 
--- the next piece was judged and let go
+-- the next piece was judged and dropped
 pub record TakesPiece {S P V : Type 0} (job : PieceWork P V) (given count : ℕ) (old new : PieceState S V) : Type 0 where
   pub used : count ≡ job.wanted old.state
   pub some : 1 ≤ count
@@ -51,7 +51,7 @@ TurnsPiece left faults job given old new (Ok (turn.Over (Some why))) =
 TurnsPiece left faults job given old new (Ok turn.Failed) = (new.text ≡ old.text) × Rose (faults old.source) (faults new.source)
 TurnsPiece left faults job given old new (Err _) = Unit {0}
 
--- What was left of a text was written: whole with an answer, and otherwise a front of it.
+-- The rest of a text was written: the whole of it with an answer, and otherwise a prefix.
 pub record LeavesText (text : List ℕ) (refused : Bool) (result : JobEnd) (before after : Option (List ℕ)) : Type 0 where
   pub whole : IsAnswered result → HasTaken before after text
   pub front : IsCutOff result → HasBegun before after text

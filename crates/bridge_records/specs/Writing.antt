@@ -5,7 +5,7 @@ use Rattle.capture_reader.specs.Format.{microseconds, nanoseconds}
 use Rattle.capture_reader.specs.Records.{RecordParts}
 use Rattle.capture_reader.specs.declared.record.RecordHeader.{RecordHeader}
 
--- the magic number by what fractions are
+-- the magic number for nanoseconds or microseconds
 abbrev pub magic : Bool → ℕ
 magic nanos = if nanos then nanoseconds else microseconds
 
@@ -36,7 +36,7 @@ raw_record r = record_head (header_for r) ++ r.bytes
 abbrev pub capture_of : Bool → List RawRecord → List ℕ
 capture_of nanos records = file_header nanos ++ flat_map raw_record records
 
--- a record whose numbers have 32 bits, and at most 262,144 bytes
+-- a record with numbers of 32 bits and at most 262,144 bytes
 pub record FitsHeader (r : RawRecord) : Type 0 where
   pub seconds : r.seconds < 2 ^ 32
   pub fraction : r.fraction < 2 ^ 32
@@ -55,11 +55,11 @@ entry_as nanos number seconds fraction original bytes = record {
   bytes = bytes;
 }
 
--- the same of a record under its number
+-- a record of raw IP under its number, as a reader gives it
 abbrev pub raw_entry : Bool → ℕ → RawRecord → RecordParts
 raw_entry nanos number r = entry_as nanos number r.seconds r.fraction r.original r.bytes
 
--- records in their order, the first after so many others
+-- records in their order, the first after this many others
 abbrev pub raw_entries : Bool → ℕ → List RawRecord → List RecordParts
 raw_entries nanos number [] = []
 raw_entries nanos number (r ∷ records) = raw_entry nanos (number + 1) r ∷ raw_entries nanos (number + 1) records

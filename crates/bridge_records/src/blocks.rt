@@ -12,7 +12,7 @@ pub(crate) struct BlockHead {
     pub(crate) kind: u32,
     /// How many bytes it has.
     pub(crate) total: u32,
-    /// The first number of its body; without a body its length once more.
+    /// The first number of its body; if it has no body, its length again.
     pub(crate) first: u32,
 }
 
@@ -22,7 +22,7 @@ pub(crate) const SECTION: u32 = 0x0a0d_0d0a;
 /// An interface.
 pub(crate) const INTERFACE: u32 = 1;
 
-/// A packet with its interface and time, as some wrote it before.
+/// A packet with its interface and time, in the older form of some writers.
 pub(crate) const PACKET: u32 = 2;
 
 /// A packet of the first interface, without a time.
@@ -66,7 +66,7 @@ pub(crate) fn is_section_version(order: Order, place: usize, bytes: &[u8]) -> bo
     order.read_u16(bytes, place) == 1 && (minor == 0 || minor == 2)
 }
 
-/// What is wrong with the length of a block that has at least so many bytes.
+/// What is wrong with the length of a block that has at least this many bytes.
 pub(crate) fn length_fault(least: u32, total: u32) -> Option<PieceFault>
     ensures value { result ≡ length_fault least total }
     ensures fits { result ≡ None → (least ≤ total) × (total ≤ 524288) × (total % 4 ≡ 0) }
@@ -80,14 +80,14 @@ pub(crate) fn length_fault(least: u32, total: u32) -> Option<PieceFault>
     None
 }
 
-// Blocks of this type tell how others are read.
+// Blocks of this type say how others are read.
 fn is_needed_block(kind: u32) -> bool
     ensures { result ≡ is_needed_block kind }
 {
     matches!(kind, SECTION | INTERFACE)
 }
 
-/// The block is not needed, and longer than one that is read may be: then it is passed over piece by piece.
+/// The block is not needed, and is longer than a block may be that is read: it is skipped piece by piece.
 pub(crate) fn is_passed_over(head: &BlockHead) -> bool
     ensures value { result ≡ is_passed_over head.now }
     ensures fits { IsTrue result → (524288 < head.now.total) × (head.now.total % 4 ≡ 0) }
@@ -118,7 +118,7 @@ pub(crate) fn block_head(order: Order, bytes: &[u8]) -> BlockHead
     }
 }
 
-/// The length of a block stands once more at its end.
+/// The length of a block is repeated at its end.
 pub(crate) fn ends_block(order: Order, total: u32, bytes: &[u8]) -> bool
     requires { 4 ≤ length bytes.now }
     ensures { result ≡ ends_block order total bytes.now }

@@ -13,7 +13,7 @@ pub(crate) struct Interface {
     pub(crate) link: u32,
     /// The most captured bytes of a packet; 0 for any number.
     pub(crate) most: u32,
-    /// How it counts time: by this power of ten, or from 128 on of two, in a second.
+    /// How many units of time a second has: this power of ten, or from 128 on a power of two.
     pub(crate) resolution: u8,
     /// The seconds that come before its times, a number with a sign.
     pub(crate) offset: u64,
@@ -24,10 +24,10 @@ const RESOLUTION: u16 = 9;
 
 const OFFSET: u16 = 14;
 
-// In a second, where no option says otherwise: a power of ten.
+// The power of ten of a second if no option says otherwise.
 const MICROSECONDS: u8 = 6;
 
-// The place of the first option of this code. After the options stand four bytes more.
+// The place of the first option of this code. Four bytes more follow the options.
 fn option_place(order: Order, code: u16, options: &[u8]) -> Option<usize>
     requires { length options.now ≤ 524288 }
     ensures value { result ≡ spec.option_place order code options.now }
@@ -48,7 +48,7 @@ fn option_place(order: Order, code: u16, options: &[u8]) -> Option<usize>
     None
 }
 
-// The value of the option there has so many bytes, and all of them are there.
+// The value of the option at this place has this many bytes, and all of them are there.
 fn has_value(order: Order, size: u16, place: usize, options: &[u8]) -> bool
     requires there { place + 8 ≤ length options.now }
     requires short { length options.now ≤ 524288 }
@@ -133,7 +133,7 @@ pub(crate) fn units_of(resolution: u8) -> Option<u64>
     None
 }
 
-/// The seconds of a time, which has so many units.
+/// The seconds of a time of this many units.
 pub(crate) fn seconds_of(units: u64, offset: u64, ticks: u64) -> u32
     requires { 0 < units }
     ensures { result ≡ seconds_of units offset ticks }

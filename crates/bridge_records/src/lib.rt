@@ -1,10 +1,11 @@
 //! Captures as the second program reads and writes them (own; the savefile format of libpcap and
-//! draft-ietf-opsawg-pcapng): the records of one that is read, classic or pcapng, and the bytes of one that is written.
+//! draft-ietf-opsawg-pcapng): the records of a classic or pcapng capture that is read, and the bytes of a capture that
+//! is written.
 //!
-//! A capture of any of fifteen link types is read in pieces whose lengths are known beforehand, and so is a pcapng file of
-//! any interfaces. Blocks of sections, interfaces and packets are read, all others skipped and counted, and each record
-//! is handed to a job. One block of the input, 524,288 bytes, and the interfaces of one section, 256 at most, are kept. Written
-//! are classic captures of raw IP. Nothing here looks into a record's bytes.
+//! A capture of any of fifteen link types is read in pieces whose lengths are known beforehand, and so is a pcapng file
+//! of any interfaces. Blocks of sections, interfaces and packets are read, and all others are skipped and counted. Each
+//! record is handed to a job. One block of the input, 524,288 bytes, and the interfaces of one section, 256 at most,
+//! are kept. The captures that are written are classic captures of raw IP. Nothing here looks into a record's bytes.
 #![tactic(auto)]
 
 mod blocks;

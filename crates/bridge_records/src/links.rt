@@ -23,8 +23,8 @@ const LINK: usize = 20;
 // How many numbers the 16 low bits have.
 const LOW: u32 = 65_536;
 
-/// The format that the 24 bytes of a file header tell, whose link type is known by its low 16 bits; or the first fault
-/// in them (the savefile format of libpcap).
+/// The format that the 24 bytes of a file header give, whose link type is known by its low 16 bits; or their first
+/// fault (the savefile format of libpcap).
 pub(crate) fn classic_format(bytes: &[u8]) -> Result<Format, FormatFault>
     requires { length bytes.now ≡ 24 }
     ensures { result ≡ classic_format bytes.now }

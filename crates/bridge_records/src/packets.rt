@@ -13,7 +13,7 @@ fn ticks_in(order: Order, bytes: &[u8]) -> u64
     u64::from(order.read_u32(bytes, 0)) * (1 << 32) + u64::from(order.read_u32(bytes, 4))
 }
 
-/// What the record of a packet of this interface says, by what follows the interface's number; None where the
+/// What the record of a packet of this interface says, from the bytes after the interface's number. None means that the
 /// interface counts time in too many units.
 pub(crate) fn enhanced_head(
     interface: &Interface,

@@ -2,8 +2,8 @@
 //! records of a capture. The pieces are judged one by one, what they do is written, and the first that is refused ends
 //! the job.
 //!
-//! A job says how long the next piece is, what it does, and what is written at the end. The loop has the rest: the
-//! limit of inputs, reading, and text that goes out in blocks and before each read.
+//! A job says how long the next piece is, what it does, and what is written at the end. The loop does the rest: the
+//! limit of inputs, reading, and text that is written in blocks and before each read.
 
 mod fault;
 mod job;

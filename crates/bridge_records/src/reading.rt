@@ -34,13 +34,13 @@ pub(crate) enum FilePlace {
     Header(Format),
     /// The bytes of a record, which this header has: 1 to 262,144.
     Body(Format, RecordHeader),
-    /// The rest of the file's first block, which has so many bytes: 28 to 524,288.
+    /// The rest of the file's first block, which has this many bytes: 28 to 524,288.
     Section(Order, u32),
     /// The first twelve bytes of a block.
     Block(Order),
     /// The rest of a block, whose length is 16 to 524,288.
     Rest(Order, BlockHead),
-    /// Of a block of this length that is passed over, the last bytes, so many: whole words of four.
+    /// The last bytes of a block of this length that is skipped, this many: whole words of four.
     Passing(Order, u32, u32),
 }
 
@@ -97,22 +97,22 @@ impl CaptureFile {
         }
     }
 
-    /// Tells whether the capture may end before the next piece.
+    /// Whether the capture may end before the next piece.
     pub(crate) fn may_end(&self) -> bool
         ensures { result ≡ spec.is_between self.now.place }
     {
         matches!(self.place, FilePlace::Header(_) | FilePlace::Block(_))
     }
 
-    /// Tells whether blocks were read, and no interface among them, which would tell whether fractions are nanoseconds.
+    /// Whether blocks were read and none of them was an interface, which would say whether fractions are nanoseconds.
     pub(crate) fn is_untold(&self) -> bool
         ensures { result ≡ spec.is_untold self.now }
     {
         matches!(self.place, FilePlace::Block(_)) && self.nanos.is_none()
     }
 
-    /// Reads the next piece. What it holds is answered, if it holds anything. A piece that is refused changes nothing.
-    /// NoMemory comes where no memory was left for an interface.
+    /// Reads the next piece, and returns what it holds, if it holds anything. A piece that is refused changes nothing.
+    /// NoMemory means that no memory was left for an interface.
     pub(crate) fn read(&mut self, piece: &[u8]) -> Result<Option<Content>, PieceError>
         requires { length piece.now ≡ spec.next_length self.old.place }
         ensures { ReadsOrLacks (file_judged self.old piece.now) piece.now self.old self.new result }
@@ -160,7 +160,7 @@ impl CaptureFile {
         self.skips.blocks = self.skips.blocks.one_more(kind);
     }
 
-    // A block that is passed over.
+    // A block that is skipped piece by piece.
     fn note_passing(&mut self, head: &BlockHead)
         ensures { self.new ≡ spec.passing_noted self.old head.now }
     {
@@ -269,7 +269,7 @@ impl CaptureFile {
         Ok(None)
     }
 
-    // A piece of a block that is passed over.
+    // A piece of a block that is skipped.
     fn pass_over(&mut self, order: Order, total: u32, left: u32, piece: &[u8]) -> Answer
         requires least { 4 ≤ length piece.now }
         requires words { left % 4 ≡ 0 }
@@ -378,7 +378,7 @@ impl CaptureFile {
         matches!(self.nanos, Some(true))
     }
 
-    // A packet whose bytes begin there in the rest of its block.
+    // A packet whose bytes begin at this place in the rest of its block.
     fn packet(
         &mut self,
         order: Order,

@@ -18,28 +18,28 @@ use std::alloc::Global;
 use std::marker::Model;
 use tool_text::JobEnd;
 
-/// A job over the records of a capture (own). Contracts see what it does where the capture begins and with a record,
+/// A job over the records of a capture (own). Contracts see what it does when the capture begins and with each record,
 /// the text of what it does, and the text after the last record.
 pub trait RecordJob {
     // What the beginning or a record does.
     ghost Deed: { Type 0 };
-    // What the job makes of records.
+    // What the job does with records.
     ghost work: { RecordWork Deed Self };
 
-    /// Begins the capture, whose fractions of a second are nanoseconds or microseconds, and leaves the text of what
-    /// that does at the text's end. NoMemory comes where no memory was left, here and below.
+    /// Begins the capture, whose fractions of a second are nanoseconds or microseconds, and puts the text of what that
+    /// does at the text's end. NoMemory means that no memory was left, here and below.
     fn begin(&mut self, nanos: bool, text: &mut Vec<u8>) -> Result<(), NoMemory>
         ensures text { OnOk result (text.new.items ≡ text.old.items ++ piece_text (records_work work) (work.begun self.old nanos).deed) }
         ensures next { OnOk result (self.new ≡ (work.begun self.old nanos).next) };
 
-    /// Takes the next record, and leaves the text of what it does at the text's end.
+    /// Takes the next record, and puts the text of what it does at the text's end.
     fn pass(&mut self, item: &Record<'_>, text: &mut Vec<u8>) -> Result<(), NoMemory>
         requires { length item.now.bytes.now ≤ 262144 }
         ensures text { OnOk result (text.new.items ≡ text.old.items ++ piece_text (records_work work) (work.passed self.old (entry_of item.now)).deed) }
         ensures next { OnOk result (self.new ≡ (work.passed self.old (entry_of item.now)).next) };
 
-    /// Puts the text after the last of so many records: at the capture's end, or where it is refused. At the end of a
-    /// pcapng file without an interface it is untold whether fractions are nanoseconds: then nothing began.
+    /// Puts the text after the last of this many records: at the capture's end, or where it is refused. At the end of a
+    /// pcapng file without an interface it is not known whether fractions are nanoseconds: the capture did not begin.
     fn finish(
         &self,
         untold: bool,
@@ -57,7 +57,7 @@ pub struct CaptureRefusal {
     pub records: u64,
 }
 
-/// How a job over records ended, why the capture is refused, if it is, and what of it was skipped (own).
+/// How a job over records ended, why the capture is refused, if it is, and what was skipped of it (own).
 #[derive(Clone, Copy)]
 pub struct RecordsEnd {
     pub end: JobEnd,
@@ -65,7 +65,7 @@ pub struct RecordsEnd {
     pub skips: Skips,
 }
 
-/// A capture while a job goes over its records.
+/// A capture while a job reads its records.
 #[derive(Drop)]
 pub(crate) struct CaptureWalk<J> {
     file: CaptureFile,
@@ -154,7 +154,7 @@ impl<J: RecordJob> CaptureWalk<J> {
         self.job.begin(nanos, text)
     }
 
-    // One record more, whose bytes begin there in this piece.
+    // One more record, whose bytes begin at this place in this piece.
     fn pass_held(
         &mut self,
         link: u32,
@@ -208,15 +208,14 @@ impl<J: RecordJob> PieceJob for CaptureWalk<J> {
     }
 }
 
-/// Does a job over the records of a capture, classic or pcapng, one by one as they are read (own): it writes the text
-/// of what the beginning and each record does, and at last the text at the capture's end or of the fault for which it
-/// is refused. The records of a pcapng file are its Enhanced Packet Blocks, and its Simple Packet Blocks at time 0;
-/// their fractions are nanoseconds where six digits cannot write the parts of a second in which the first interface
-/// counts time.
+/// Does a job over the records of a capture, classic or pcapng, one by one as they are read (own). It writes the text
+/// of what the beginning and each record does, and at the end the text for the capture's end or for the fault for which
+/// it is refused. The records of a pcapng file are its Enhanced Packet Blocks, and its Simple Packet Blocks at time 0.
+/// Their fractions are nanoseconds if six digits are too few for the units in which the first interface counts time.
 ///
-/// Input comes where the capture has a fault, which is answered with how many records come before it; and what was
-/// skipped is answered, too. With status 0 or 1 the output is that of the whole input, with another a front of it. Read
-/// comes where the source failed, Write where the sink did, and Memory where no memory was left.
+/// Input means that the capture has a fault. The fault is returned with the number of records before it, and so is what
+/// was skipped. With status 0 or 1 the output is that of the whole input, with another a prefix of it. Read means that
+/// the source failed, Write that the sink did, and Memory that no memory was left.
 pub fn run_records<J: RecordJob + Drop, S: Source, K: Sink>(
     alloc: Global,
     job: J,

@@ -1,4 +1,4 @@
-//! What of a capture is skipped, counted.
+//! What is skipped of a capture, counted.
 ghost use Rattle.std.specs.Prelude.{◌≡◌};
 ghost use Rattle.bridge_records.specs.Skips as spec;
 
@@ -6,27 +6,27 @@ ghost use Rattle.bridge_records.specs.Skips as spec;
 #[derive(Clone, Copy)]
 pub struct Tally {
     pub count: u64,
-    /// What is told of the first, and 0 where there is none.
+    /// What is kept about the first one, or 0 if there is none.
     pub first: u32,
 }
 
-/// What of a pcapng file is skipped (own).
+/// What is skipped of a pcapng file (own).
 #[derive(Clone, Copy)]
 pub struct Skips {
-    /// Packets whose link type is not known, which are records without IP; of the first its link type.
+    /// Packets whose link type is not known, which are records without IP. About the first, its link type is kept.
     pub links: Tally,
-    /// Packets of more than 262,144 bytes, or in blocks of more than 524,288, which are no records; of the first so many
-    /// bytes.
+    /// Packets of more than 262,144 bytes, or in blocks of more than 524,288, which are no records. About the first,
+    /// its number of bytes is kept.
     pub long: Tally,
-    /// Blocks of types that are not read; of the first its type.
+    /// Blocks of types that are not read. About the first, its type is kept.
     pub blocks: Tally,
 }
 
-// Nothing of a kind.
+// Nothing of a kind was skipped.
 const NONE: Tally = Tally { count: 0, first: 0 };
 
 impl Tally {
-    /// One more.
+    /// One more of a kind was skipped.
     pub(crate) fn one_more(self, told: u32) -> Tally
         ensures { result ≡ spec.tally_with self told }
     {

@@ -7,9 +7,9 @@ use seq_circle::NoMemory;
 pub enum PieceFault {
     /// The first bytes are no magic number of a capture.
     BadMagic,
-    /// The version is another than the format has.
+    /// The version is not one that the format has.
     BadVersion,
-    /// A link type is none of those that are known.
+    /// A link type is not known.
     BadLink,
     /// The input ends inside a piece, or where it may not end.
     CutShort,

@@ -40,7 +40,7 @@ pub(crate) struct PiecesEnd {
     pub(crate) fault: Option<PieceFault>,
 }
 
-// The loop. What it works on is lent, so that none of its ends has anything to drop.
+// The loop. It works on borrowed values, so that it has nothing to drop where it ends.
 fn take_pieces<J: PieceJob, S: Source, K: Sink>(
     job: &mut J,
     source: &mut S,
@@ -87,12 +87,12 @@ fn take_pieces<J: PieceJob, S: Source, K: Sink>(
     }
 }
 
-/// Does a job over the pieces of an input, one by one as they are read (own): it writes the text of what each does, and
-/// at last the text at the input's end or of the fault for which it is refused. Text goes out in blocks of 65,536
-/// bytes, and before the source is asked for more. A piece that ends after the input's first 4,294,967,296 bytes is
-/// refused as TooLarge, and an input that ends inside a piece, or where the job does not let it, as CutShort. With
-/// status 0 or 1 the output is that of the whole input, with another a front of it. Read comes where the source failed,
-/// Write where the sink did, and Memory where no memory was left.
+/// Does a job over the pieces of an input, one by one as they are read (own). It writes the text of what each piece
+/// does, and at the end the text for the input's end or for the fault for which it is refused. Text is written in
+/// blocks of 65,536 bytes, and before the source is asked for more. A piece that ends after the input's first
+/// 4,294,967,296 bytes is refused as TooLarge, and an input that ends inside a piece, or where the job does not allow
+/// it, as CutShort. With status 0 or 1 the output is that of the whole input, with another a prefix of it. Read means
+/// that the source failed, Write that the sink did, and Memory that no memory was left.
 pub(crate) fn run_pieces<J: PieceJob, S: Source, K: Sink>(
     alloc: Global,
     job: &mut J,

@@ -13,7 +13,7 @@ use seq_circle::NoMemory;
 pub(crate) enum PieceTurn {
     /// More of the input was read.
     Read,
-    /// A piece of so many bytes was accepted.
+    /// A piece of this many bytes was accepted.
     Taken(usize),
     /// The input is at its end, or refused.
     Over(Option<PieceFault>),
@@ -21,7 +21,7 @@ pub(crate) enum PieceTurn {
     Failed,
 }
 
-// Why the input is refused at its end, if it is: no byte may be left, and the job has to allow it.
+// Why the input is refused at its end, if it is: no byte may be left, and the job has to allow the end there.
 fn end_of<J: PieceJob>(job: &J, held: usize) -> Option<PieceFault>
     ensures { result ≡ unended (held == 0 && J.job.may_end job.now) }
 {
@@ -32,7 +32,7 @@ fn end_of<J: PieceJob>(job: &J, held: usize) -> Option<PieceFault>
     }
 }
 
-// Reads once after the bytes that are held, which are fewer than the next piece has.
+// Reads once, after the bytes that are held, which are fewer than the next piece has.
 fn read_more<J: PieceJob, S: Source>(
     job: &mut J,
     source: &mut S,
@@ -85,8 +85,8 @@ fn judge_piece<J: PieceJob, S: Source>(
     }
 }
 
-/// Reads on where the next piece is not held whole, and judges it where it is. Where that asks the source for more,
-/// nothing is unwritten.
+/// Reads on if the next piece is not held whole, and else judges it. When the source is asked for more, all text is
+/// written.
 pub(crate) fn take_turn<J: PieceJob, S: Source>(
     job: &mut J,
     source: &mut S,

@@ -10,13 +10,13 @@ use tool_text::put;
 
 const VERSION: [u8; 4] = [0, 2, 0, 4];
 
-// The most captured bytes of a record that a reader of captures has to expect.
+// The most captured bytes that a record may have for a reader of captures.
 const SNAP_LENGTH: u32 = 262_144;
 
 /// The link type of raw IP (the link-layer header types of libpcap).
 pub const RAW_IP: u32 = 101;
 
-/// Puts a number of 16 bits. NoMemory comes where the text could not grow.
+/// Puts a number of 16 bits. NoMemory comes if the text could not grow.
 pub fn put_u16(text: &mut Vec<u8>, value: u16) -> Result<(), NoMemory>
     ensures { OnOk result (text.new.items ≡ text.old.items ++ big_bytes 2 value) }
 {
@@ -40,7 +40,7 @@ fn magic(nanos: bool) -> u32
 }
 
 /// Puts the file header of a capture whose fractions are nanoseconds or microseconds: version 2.4, no zone and no
-/// accuracy, records of up to 262,144 bytes, and raw IP. NoMemory comes where the text could not grow; then its first
+/// accuracy, records of up to 262,144 bytes, and raw IP. NoMemory comes if the text could not grow; then its first
 /// bytes may be there.
 pub fn put_file_header(text: &mut Vec<u8>, nanos: bool) -> Result<(), NoMemory>
     ensures { OnOk result (text.new.items ≡ text.old.items ++ file_header nanos) }
@@ -53,7 +53,7 @@ pub fn put_file_header(text: &mut Vec<u8>, nanos: bool) -> Result<(), NoMemory>
     put_u32(text, RAW_IP)
 }
 
-/// Puts the header of a record. NoMemory comes where the text could not grow; then its first bytes may be there.
+/// Puts the header of a record. NoMemory comes if the text could not grow; then its first bytes may be there.
 pub fn put_record_header(text: &mut Vec<u8>, header: &RecordHeader) -> Result<(), NoMemory>
     ensures { OnOk result (text.new.items ≡ text.old.items ++ record_head header.now) }
 {

@@ -3,8 +3,8 @@ ghost use Rattle.std.specs.Prelude.{◌≡◌, ◌≤◌, ◌^◌, List, Bool, A
 ghost use Rattle.capture_reader.specs.Records.{captured};
 ghost use Rattle.bridge_records.specs.Writing.{FitsHeader, RawRecord, capture_of, raw_entries};
 
-/// A reader of captures finds in what is written of records these records, in their order, whole and under their times,
-/// and nothing else, where they have no more bytes than count (the savefile format of libpcap).
+/// In what is written of records, a reader of captures finds these records, in their order, whole and with their times,
+/// and nothing else, if none has more than 262,144 bytes (the savefile format of libpcap).
 pub fn what_is_written_is_read()
     ensures { (nanos : Bool) (records : List RawRecord) → All FitsHeader records
         → length (capture_of nanos records) ≤ 2 ^ 32

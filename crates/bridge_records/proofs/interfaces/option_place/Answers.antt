@@ -1,4 +1,4 @@
--- What is sought from each place on is sought in the whole list.
+-- What is looked for from each place on is looked for in the whole list.
 use Rattle.std.proofs.Common.{arith, rules, ◌≡◌, sym, ap, ◌∙◌, ℕ, ◌+◌, ◌*◌, ◌/◌, ◌≤◌, ◌<◌, ◌==◌, List, length, false}
 use Rattle.std.proofs.lemmas.Bool.{ne_eqb}
 use Rattle.capture_reader.specs.Format.{ordered_number_at}
