@@ -17,7 +17,7 @@ ip_of_protocol protocol next bytes =
     else if is_label_protocol protocol then ip_in_labels next bytes
     else None
 
--- after a header of PPPoE, six bytes, stands the protocol of PPP (RFC 2516, section 4)
+-- a header of PPPoE has six bytes, and the protocol of PPP follows (RFC 2516, section 4)
 abbrev pub ip_in_session : ℕ → List ℕ → Option ℕ
 ip_in_session next bytes = if nat_lt (length bytes) (next + 8) then None else ip_of_protocol (number_at (next + 6) 2 bytes) (next + 8) bytes
 
@@ -38,14 +38,14 @@ ip_of_type kind next bytes =
 abbrev pub is_tag : ℕ → Bool
 is_tag kind = kind == 33024 || (kind == 34984 || kind == 37120)
 
--- the same after a tag, of whose four bytes the last two are the next type
+-- what follows a tag has this type: the last two of the tag's four bytes are the next type
 abbrev pub ip_after_tag : ℕ → ℕ → List ℕ → Option ℕ
 ip_after_tag kind next bytes =
     if not (is_tag kind) then ip_of_type kind next bytes
     else if nat_lt (length bytes) (next + 4) then None
     else ip_of_type (number_at (next + 2) 2 bytes) (next + 4) bytes
 
--- the same after up to two tags
+-- what follows at a place has this type, after up to two tags
 abbrev pub ip_after_tags : ℕ → ℕ → List ℕ → Option ℕ
 ip_after_tags kind next bytes =
     if not (is_tag kind) then ip_of_type kind next bytes

@@ -11,9 +11,9 @@ use Rattle.bridge_links.specs.Logs.{ip_in_log}
 use Rattle.bridge_links.specs.Starts.{ip_at, ip_at_either, start_after, start_or}
 use Rattle.bridge_links.specs.Wireless.{ip_after_radio, ip_in_wireless}
 
--- Link types 0 and 108 begin with an address family, 1 is Ethernet, 9 is PPP, 12 and 101 are raw IP, 105 is a frame of
--- 802.11, 113 and 276 are those of the "any" device of Linux, 127 is 802.11 after what the radio tells, 219 is MPLS, 228
--- IPv4, 229 IPv6, 239 a logged packet, and 258 a record of macOS with another in it.
+-- Link types 0 and 108 begin with an address family, 1 is Ethernet, 9 is PPP, 12 and 101 are raw IP, 105 is a frame of 802.11, 113 and 276 are
+-- those of the "any" device of Linux, 127 is 802.11 after the radio's header, 219 is MPLS, 228 IPv4, 229 IPv6, 239 a logged packet, and 258 a
+-- record of macOS with another in it.
 
 -- IP of either version begins with the record
 abbrev pub ip_at_first : List ℕ → Option ℕ
@@ -26,7 +26,7 @@ ip_in_ppp bytes =
     else if number_at 0 2 bytes == 65283 then ip_of_protocol (number_at 2 2 bytes) 4 bytes
     else ip_of_protocol (number_at 0 2 bytes) 2 bytes
 
--- the type is at one place of the link's header, and what follows after the header
+-- the type is at one place of the link's header, and its packet is after the header
 abbrev pub ip_by_type : ℕ → ℕ → List ℕ → Option ℕ
 ip_by_type place header bytes = if nat_lt (length bytes) header then None else ip_after_tags (number_at place 2 bytes) header bytes
 
@@ -69,12 +69,12 @@ ip_of_link link bytes =
     else if link == 108 then ip_in_loop bytes
     else ip_of_later_link link bytes
 
--- a record of macOS has three numbers of four bytes, the less significant first: how many are before the record in it, 1
--- where there is one, and its link type
+-- a record of macOS has three numbers of four bytes, the less significant first: how many bytes come before the inner record, 1 if there is one,
+-- and its link type
 abbrev pub outer_bytes : List ℕ → ℕ
 outer_bytes bytes = ordered_number_at Little 0 4 bytes
 
--- where the IP packet begins in the record in it
+-- where the IP packet begins in the inner record
 unfoldable pub ip_in_inner : List ℕ → Option ℕ
 ip_in_inner bytes =
     if nat_lt (length bytes) 12 then None
@@ -85,7 +85,7 @@ ip_in_inner bytes =
 abbrev pub ip_start : ℕ → List ℕ → Option ℕ
 ip_start link bytes = if link == 258 then ip_in_inner bytes else ip_of_link link bytes
 
--- the IP packet that begins there, or no bytes where there is none
+-- the IP packet that begins there, or no bytes if there is none
 abbrev pub bytes_at_start : Option ℕ → List ℕ → List ℕ
 bytes_at_start (Some start) bytes = drop start bytes
 bytes_at_start None bytes = []
@@ -94,7 +94,7 @@ bytes_at_start None bytes = []
 abbrev pub captured_ip : ℕ → List ℕ → List ℕ
 captured_ip link bytes = bytes_at_start (ip_start link bytes) bytes
 
--- the same without the extension headers before DCCP
+-- the IP packet in a record of this link type, without the extension headers before DCCP
 abbrev pub ip_bytes : ℕ → List ℕ → List ℕ
 ip_bytes link bytes = plain_ip (captured_ip link bytes)
 

@@ -1,6 +1,6 @@
--- A packet that Linux's packet filter logged, of link type 239 (the link-layer header types of libpcap): an address
--- family in the first byte, and from the fifth on parts in the byte order of the host that captured. Each has its
--- length, its type and its value, and is filled up to whole words of four.
+-- A packet that Linux's packet filter logged, of link type 239 (the link-layer header types of libpcap): an address family in the first byte,
+-- and from the fifth byte on parts in the byte order of the host that captured. Each part has its length, its type and its value, and is filled
+-- up to whole words of four.
 use Rattle.std.specs.Prelude.{ℕ, zero, suc, ◌+◌, ◌*◌, ◌/◌, ◌==◌, nat_lt, if◌then◌else◌, List, length, slice_index, Option, Some, None}
 use Rattle.capture_reader.specs.Format.{ordered_number_at}
 use Rattle.capture_reader.specs.declared.format.Order.{Order}
@@ -11,7 +11,7 @@ use Rattle.bridge_links.specs.Starts.{ip_at, start_or}
 abbrev pub part_size : Order → ℕ → List ℕ → ℕ
 part_size order place bytes = (ordered_number_at order place 2 bytes + 3) / 4 * 4
 
--- the place of the value of the first part of type 9, the packet, among so many parts from a place on
+-- the place of the value of the first part of type 9, the packet, among this many parts from a place on
 unfoldable pub payload_from : ℕ → Order → ℕ → List ℕ → Option ℕ
 payload_from zero order place bytes = None
 payload_from (suc left) order place bytes =
@@ -23,7 +23,7 @@ payload_from (suc left) order place bytes =
 abbrev pub payload_place : Order → List ℕ → Option ℕ
 payload_place order bytes = payload_from 32 order 4 bytes
 
--- IP of the version that the family says begins there: 2 is IPv4, and 10 IPv6
+-- IP begins there, of the version of this address family: 2 is IPv4, and 10 IPv6
 abbrev pub ip_of_host_family : ℕ → Option ℕ → List ℕ → Option ℕ
 ip_of_host_family family None bytes = None
 ip_of_host_family family (Some place) bytes =
@@ -35,6 +35,6 @@ ip_of_host_family family (Some place) bytes =
 abbrev pub ip_in_order : Order → List ℕ → Option ℕ
 ip_in_order order bytes = ip_of_host_family (slice_index bytes 0) (payload_place order bytes) bytes
 
--- The same in whichever order there is one.
+-- IP in a logged packet, in the byte order in which there is one.
 abbrev pub ip_in_log : List ℕ → Option ℕ
 ip_in_log bytes = if nat_lt (length bytes) 4 then None else start_or (ip_in_order Little bytes) (ip_in_order Big bytes)

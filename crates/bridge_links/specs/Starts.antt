@@ -5,7 +5,7 @@ use Rattle.std.specs.Prelude.{ℕ, ◌+◌, ◌/◌, ◌&&◌, ◌==◌, nat_lt,
 abbrev pub ip_at : ℕ → ℕ → List ℕ → Option ℕ
 ip_at version start bytes = if nat_lt start (length bytes) && slice_index bytes start / 16 == version then Some start else None
 
--- the one, or else the other
+-- the first place, or else the second
 abbrev pub start_or : Option ℕ → Option ℕ → Option ℕ
 start_or (Some start) other = Some start
 start_or None other = other
@@ -14,7 +14,7 @@ start_or None other = other
 abbrev pub ip_at_either : ℕ → List ℕ → Option ℕ
 ip_at_either start bytes = start_or (ip_at 4 start bytes) (ip_at 6 start bytes)
 
--- a start that is found in what follows so many bytes
+-- a place that was found in the bytes after this many, counted from the beginning
 abbrev pub start_after : ℕ → Option ℕ → Option ℕ
 start_after size None = None
 start_after size (Some start) = Some (size + start)

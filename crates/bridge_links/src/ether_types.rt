@@ -79,7 +79,7 @@ fn is_tag(kind: u16) -> bool
     kind == VLAN || kind == SERVICE_VLAN || kind == OUTER_VLAN
 }
 
-// The same after a tag, of whose four bytes the last two are the next type.
+// What follows a tag has this type: the last two of the tag's four bytes are the next type.
 fn ip_after_tag(kind: u16, next: usize, bytes: &[u8]) -> Option<usize>
     requires { next ≤ 80 }
     ensures value { result ≡ ip_after_tag kind next bytes.now }
@@ -94,7 +94,7 @@ fn ip_after_tag(kind: u16, next: usize, bytes: &[u8]) -> Option<usize>
     ip_of_type(read_u16(bytes, next + 2), next + 4, bytes)
 }
 
-/// The same after up to two tags.
+/// What follows has this type, after up to two tags.
 pub(crate) fn ip_after_tags(kind: u16, next: usize, bytes: &[u8]) -> Option<usize>
     requires { next ≤ 64 }
     ensures value { result ≡ ip_after_tags kind next bytes.now }

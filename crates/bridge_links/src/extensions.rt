@@ -35,7 +35,7 @@ const DESTINATION: usize = 24;
 
 const ADDRESS: usize = 16;
 
-// The headers that are passed over.
+// The headers that are skipped.
 const HOP_BY_HOP: u8 = 0;
 
 const ROUTING: u8 = 43;
@@ -51,7 +51,7 @@ const SEGMENT_LIST: u8 = 4;
 
 const DCCP: u8 = 33;
 
-// The most extension headers that are passed over.
+// The most extension headers that are skipped.
 const MOST_EXTENSIONS: u8 = 16;
 
 fn is_extension(kind: u8) -> bool
@@ -69,7 +69,7 @@ fn extension_size(place: usize, bytes: &[u8]) -> usize
     8 + 8 * usize::from(bytes[place + 1])
 }
 
-// The place of the last address of a Routing header that has room for one.
+// The place of the last address of a Routing header, if it has room for one.
 fn last_address(place: usize, to: usize, bytes: &[u8]) -> usize
     requires room { place + 8 ≤ length bytes.now }
     requires long { 24 ≤ spec.extension_size place bytes.now }
@@ -97,7 +97,7 @@ fn destination_after(kind: u8, place: usize, to: usize, bytes: &[u8]) -> usize
     last_address(place, to, bytes)
 }
 
-// The header there, if all before it was captured and none is left to pass over.
+// The header at this place, if all before it was captured and it is not one to skip.
 fn upper_at(kind: u8, place: usize, to: usize, bytes: &[u8]) -> Option<Upper>
     ensures { result ≡ spec.upper_at kind place to bytes.now }
 {
@@ -107,7 +107,7 @@ fn upper_at(kind: u8, place: usize, to: usize, bytes: &[u8]) -> Option<Upper>
     Some(Upper { kind, place, to })
 }
 
-/// The header after the extension headers of an IPv6 packet, of which at most 16 are passed over; None where they were
+/// The header after the extension headers of an IPv6 packet, of which at most 16 are skipped. None means that they were
 /// not captured whole, or are more.
 pub fn upper_of(bytes: &[u8]) -> Option<Upper>
     requires { 40 ≤ length bytes.now }
@@ -136,7 +136,7 @@ pub(crate) fn is_extended(ip: &[u8]) -> bool
     IPV6_HEADER <= ip.len() && ip[0] / 16 == 6 && is_extension(ip[NEXT_HEADER])
 }
 
-// DCCP is there, and the packet's length takes in all before it.
+// DCCP is there, and the packet's length includes all before it.
 fn holds_dccp(upper: &Upper, ip: &[u8]) -> bool
     requires { 40 ≤ length ip.now }
     ensures value { result ≡ spec.holds_dccp upper.now ip.now }
@@ -154,7 +154,7 @@ fn put_u16(text: &mut Vec<u8>, value: u16) -> Result<(), NoMemory>
     put(text, &piece)
 }
 
-// Some bytes from a place on.
+// This many bytes from a place on.
 fn bytes_at(bytes: &[u8], place: usize, count: usize) -> &[u8]
     requires { place + count ≤ length bytes.now }
     ensures { result.now ≡ bytes_at place count bytes.now }
@@ -173,7 +173,8 @@ fn plain_length(upper: &Upper, ip: &[u8]) -> u16
     (length - (upper.place - IPV6_HEADER)) as u16
 }
 
-// The packet whose header of DCCP is there, with nothing between the two headers and its last destination.
+// The packet whose header of DCCP is at this place, with nothing between the two headers, and with its last
+// destination.
 #[tactic(auto, unfolding(crate::specs::Extensions::without_extensions))]
 fn without_extensions(alloc: Global, upper: &Upper, ip: &[u8]) -> Result<Vec<u8>, NoMemory>
     requires long { 40 ≤ length ip.now }
@@ -193,8 +194,8 @@ fn without_extensions(alloc: Global, upper: &Upper, ip: &[u8]) -> Result<Vec<u8>
     Ok(plain)
 }
 
-/// An IPv6 packet without the extension headers before DCCP, or None where there are none that lead to it. NoMemory
-/// comes where no memory was left.
+/// An IPv6 packet without the extension headers before DCCP, or None if it has none that lead to DCCP. NoMemory means
+/// that no memory was left.
 #[tactic(auto, using(crate::proofs::Lengths::without_fits))]
 pub(crate) fn shortened(alloc: Global, ip: &[u8]) -> Result<Option<Vec<u8>>, NoMemory>
     requires { 40 ≤ length ip.now }

@@ -7,7 +7,7 @@ use crate::starts::ip_at_either;
 // The bytes of a label.
 const LABEL: usize = 4;
 
-// The most labels that are passed over.
+// The most labels that are skipped.
 const MOST_LABELS: u8 = 16;
 
 /// IP under the labels that begin here.

@@ -1,7 +1,7 @@
-//! Where the IP packet of a captured record stands, by the link type (the link-layer header types of libpcap).
+//! Where the IP packet of a captured record is, by the link type (the link-layer header types of libpcap).
 //!
-//! It looks at the header of the link, at VLAN tags, PPPoE and the labels of MPLS, at the packet's version, and at the
-//! extension headers of IPv6. Where these lead to DCCP they are taken out, which alone takes memory.
+//! This crate looks at the header of the link, at VLAN tags, PPPoE and the labels of MPLS, at the packet's version, and
+//! at the extension headers of IPv6. If these lead to DCCP they are removed, and only that takes memory.
 #![tactic(auto)]
 
 mod ether_types;

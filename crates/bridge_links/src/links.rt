@@ -15,10 +15,10 @@ use capture_reader::{Order, rest_after};
 // The address and the control byte that may come before a protocol of PPP.
 const PPP_CONTROL: u16 = 0xff03;
 
-// A record that has another in it.
+// A record that may have another record in it.
 const OUTER: u32 = 258;
 
-// It has one.
+// The number that says that it has one.
 const HAS_INNER: u32 = 1;
 
 // IP of either version begins with the record.
@@ -43,7 +43,7 @@ fn ip_in_ppp(bytes: &[u8]) -> Option<usize>
     }
 }
 
-// The type is at one place of the link's header, and what follows after the header.
+// The type is at one place of the link's header, and its packet is after the header.
 fn ip_by_type(place: usize, header: usize, bytes: &[u8]) -> Option<usize>
     requires place { place + 2 ≤ header }
     requires header { header ≤ 32 }
@@ -93,7 +93,7 @@ fn ip_in_null(bytes: &[u8]) -> Option<usize>
     }
 }
 
-// Where the IP packet begins in a record of one link, or None where it has none.
+// Where the IP packet begins in a record without another in it, or None if it has none.
 fn ip_of_link(link: u32, bytes: &[u8]) -> Option<usize>
     ensures value { result ≡ ip_of_link link bytes.now }
     ensures within { IfSome result (λ n. n < length bytes.now) }
@@ -109,7 +109,7 @@ fn ip_of_link(link: u32, bytes: &[u8]) -> Option<usize>
     }
 }
 
-// The same of the link types from 113 on.
+// Where the IP packet begins in a record of a link type from 113 on, or None if it has none.
 #[tactic(auto, unfolding(crate::specs::Links::ip_of_later_link))]
 fn ip_of_later_link(link: u32, bytes: &[u8]) -> Option<usize>
     ensures value { result ≡ ip_of_later_link link bytes.now }
@@ -127,7 +127,7 @@ fn ip_of_later_link(link: u32, bytes: &[u8]) -> Option<usize>
     }
 }
 
-// How many bytes are before the record in this one.
+// How many bytes come before the inner record.
 fn outer_bytes(bytes: &[u8]) -> usize
     requires { 12 ≤ length bytes.now }
     ensures { result ≡ spec.outer_bytes bytes.now }
@@ -135,7 +135,7 @@ fn outer_bytes(bytes: &[u8]) -> usize
     Order::Little.read_u32(bytes, 0) as usize
 }
 
-// Where the IP packet begins in the record in this one, or None where it has none.
+// Where the IP packet begins in the inner record, or None if it has none.
 #[tactic(auto, unfolding(crate::specs::Links::ip_in_inner))]
 fn ip_in_inner(bytes: &[u8]) -> Option<usize>
     ensures value { result ≡ ip_in_inner bytes.now }
@@ -152,7 +152,7 @@ fn ip_in_inner(bytes: &[u8]) -> Option<usize>
     start_after(size, ip_of_link(link, rest_after(bytes, size)), bytes)
 }
 
-// Where the IP packet begins in a record of this link type, or None where it has none.
+// Where the IP packet begins in a record of this link type, or None if it has none.
 fn ip_start(link: u32, bytes: &[u8]) -> Option<usize>
     ensures value { result ≡ ip_start link bytes.now }
     ensures within { IfSome result (λ n. n < length bytes.now) }
@@ -163,7 +163,7 @@ fn ip_start(link: u32, bytes: &[u8]) -> Option<usize>
     }
 }
 
-/// The IP packet in a record of this link type as it was captured, or no bytes where it has none.
+/// The IP packet in a record of this link type as it was captured, or no bytes if there is none.
 pub(crate) fn captured_ip(link: u32, bytes: &[u8]) -> &[u8]
     ensures value { result.now ≡ captured_ip link bytes.now }
     ensures fits { length result.now ≤ length bytes.now }

@@ -41,7 +41,7 @@ fn payload_place(order: Order, bytes: &[u8]) -> Option<usize>
     None
 }
 
-// IP of the version that the family says begins there.
+// IP begins there, of the version of this address family.
 fn ip_of_host_family(family: u8, place: Option<usize>, bytes: &[u8]) -> Option<usize>
     ensures value { result ≡ spec.ip_of_host_family family place bytes.now }
     ensures within { IfSome result (λ n. n < length bytes.now) }
@@ -65,7 +65,7 @@ fn ip_in_order(order: Order, bytes: &[u8]) -> Option<usize>
     ip_of_host_family(bytes[0], payload_place(order, bytes), bytes)
 }
 
-/// IP in a logged packet, in whichever byte order there is one.
+/// IP in a logged packet, in the byte order in which there is one.
 pub(crate) fn ip_in_log(bytes: &[u8]) -> Option<usize>
     ensures value { result ≡ spec.ip_in_log bytes.now }
     ensures within { IfSome result (λ n. n < length bytes.now) }

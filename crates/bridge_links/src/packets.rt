@@ -13,7 +13,7 @@ use std::alloc::Global;
 pub enum IpPacket<'a> {
     /// It is in the record.
     Captured(&'a [u8]),
-    /// It has no extension headers, as those in the record have.
+    /// It has no extension headers, unlike the one in the record.
     Shortened(Vec<u8>),
 }
 
@@ -29,9 +29,9 @@ impl IpPacket<'_> {
     }
 }
 
-/// The IP packet in a record of this link type, or no bytes where it has none (the link-layer header types of libpcap;
-/// IEEE 802.1Q), as where its link type is not known. It has no extension headers of IPv6 before DCCP. NoMemory comes
-/// where no memory was left to take them out.
+/// The IP packet in a record of this link type, or no bytes if there is none or the link type is not known (the
+/// link-layer header types of libpcap; IEEE 802.1Q). It has no extension headers of IPv6 before DCCP. NoMemory means
+/// that no memory was left to remove them.
 pub fn ip_packet(alloc: Global, link: u32, bytes: &[u8]) -> Result<IpPacket<'_>, NoMemory>
     ensures value { IfOk result (λ packet. packet_bytes packet ≡ ip_bytes link bytes.now) }
     ensures fits { IfOk result (λ packet. length (packet_bytes packet) ≤ length bytes.now) }

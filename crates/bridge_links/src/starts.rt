@@ -24,7 +24,7 @@ pub(crate) fn ip_at_either(start: usize, bytes: &[u8]) -> Option<usize>
     }
 }
 
-/// A start that is found in what follows so many of these bytes.
+/// A place that was found in the bytes after this many, counted from the beginning.
 pub(crate) fn start_after(size: usize, found: Option<usize>, bytes: &[u8]) -> Option<usize>
     requires { IfSome found (λ n. size + n < length bytes.now) }
     ensures value { result ≡ start_after size found }

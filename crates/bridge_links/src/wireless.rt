@@ -8,7 +8,7 @@ use crate::starts::start_after;
 use byteorder::{BigEndian, ByteOrder};
 use capture_reader::{Order, rest_after};
 
-// What the first bytes say: version 0 and type 2 in four bits, and of the subtype the bit for no data, and that for
+// What the first bytes say: version 0 and type 2 in four bits, and in the subtype the bit for no data and the bit for
 // quality of service.
 const DATA: u8 = 8;
 
@@ -16,7 +16,7 @@ const NO_DATA: u8 = 64;
 
 const QUALITY: u8 = 128;
 
-// The flags of a frame from one access point to another, and the one for four bytes more.
+// The flags of a frame from one access point to another, and the flag for four bytes more.
 const BETWEEN: u8 = 3;
 
 const ORDER: u8 = 128;
@@ -24,7 +24,7 @@ const ORDER: u8 = 128;
 // The flag of several packets, in the first byte of quality of service.
 const AGGREGATE: u8 = 128;
 
-// aaaa03 and a zero, the begin of what is before a type of Ethernet.
+// aaaa03 and a zero: the first of the bytes before a type of Ethernet.
 const SNAP: u32 = 0xaaaa_0300;
 
 // The least bytes of a frame with a type of Ethernet.
@@ -45,7 +45,7 @@ fn has_quality(bytes: &[u8]) -> bool
     QUALITY <= bytes[0]
 }
 
-// The bytes up to the last address.
+// How many bytes there are up to the last address.
 fn front_bytes(bytes: &[u8]) -> usize
     requires { 32 ≤ length bytes.now }
     ensures value { result ≡ spec.front_bytes bytes.now }
@@ -54,7 +54,7 @@ fn front_bytes(bytes: &[u8]) -> usize
     if bytes[1] % 4 == BETWEEN { 30 } else { 24 }
 }
 
-// The bytes after them, before what the frame carries.
+// How many bytes come after them, before what the frame carries.
 fn quality_bytes(bytes: &[u8]) -> usize
     requires { 32 ≤ length bytes.now }
     ensures value { result ≡ spec.quality_bytes bytes.now }
@@ -66,7 +66,7 @@ fn quality_bytes(bytes: &[u8]) -> usize
     if ORDER <= bytes[1] { 6 } else { 2 }
 }
 
-// The bytes before the first of several packets.
+// How many bytes come before the first of several packets.
 fn aggregate_bytes(bytes: &[u8]) -> usize
     requires { 32 ≤ length bytes.now }
     ensures value { result ≡ spec.aggregate_bytes bytes.now }
@@ -128,7 +128,7 @@ pub(crate) fn ip_in_wireless(bytes: &[u8]) -> Option<usize>
     ip_in_frame(bytes)
 }
 
-// The bytes of what the radio tells of a frame.
+// How many bytes the radio's header of a frame has.
 fn radio_bytes(bytes: &[u8]) -> usize
     requires { 4 ≤ length bytes.now }
     ensures { result ≡ spec.radio_bytes bytes.now }
@@ -136,7 +136,7 @@ fn radio_bytes(bytes: &[u8]) -> usize
     usize::from(Order::Little.read_u16(bytes, 2))
 }
 
-/// IP in a frame after what the radio tells of it.
+/// IP in a frame after the radio's header.
 #[tactic(auto, unfolding(crate::specs::Wireless::ip_after_radio))]
 pub(crate) fn ip_after_radio(bytes: &[u8]) -> Option<usize>
     ensures value { result ≡ spec.ip_after_radio bytes.now }

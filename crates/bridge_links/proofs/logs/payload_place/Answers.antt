@@ -1,4 +1,4 @@
--- What is sought from each place on is sought among all parts.
+-- What is looked for from each place on is looked for among all parts.
 use Rattle.std.proofs.Common.{arith, rules, ◌≡◌, sym, ap, ◌∙◌, ℕ, ◌+◌, ◌-◌, ◌≤◌, ◌<◌, List, length}
 use Rattle.bridge_links.specs.Logs.{payload_from}
 use Rattle.bridge_links.proofs.Walks.{payload_here, payload_none, payload_short, payload_step}
