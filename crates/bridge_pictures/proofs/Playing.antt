@@ -1,4 +1,4 @@
--- What a line comes to in the windows, by what it comes to in `run`.
+-- The result of a line in the windows, by its result in `run`.
 use Rattle.std.proofs.Common.{◌≡◌, refl, sym, ap, ◌∙◌, List, [], ℕ, Ok, Err}
 use Rattle.std.proofs.lemmas.List.{append-nil}
 use Rattle.tool_jobs.specs.Scenes.{Scene}

@@ -6,7 +6,7 @@ use Rattle.bridge_pictures.specs.Svg.{cut_text, line, words}
 use Rattle.bridge_pictures.specs.declared.windows.chart.Counts.{Counts}
 use Rattle.bridge_pictures.specs.declared.windows.chart.Span.{Span}
 
--- The chart of one end: the window that was drawn last, the most packets that were, and the bars.
+-- The chart of one end: the window that was drawn last, the most packets that were drawn, and the bars.
 pub record ChartParts : Type 0 where
   pub shown : ℕ
   pub tallest : ℕ
@@ -21,7 +21,7 @@ unfoldable pub column_words : List ℕ → Counts → List ℕ
 column_words happened counts =
     cut_text happened ++ codes "\nwindow " ++ decimal counts.window ++ codes " flight " ++ decimal counts.flight
 
--- a column's mark that the window fell from what was drawn last
+-- a column's mark if the window is smaller than the one that was drawn last
 abbrev pub fall : ChartParts → ℕ → Counts → List ℕ → List ℕ
 fall c column counts title = if nat_lt counts.window c.shown then bar (codes "fell") column 0 (packets_high c.shown) title else []
 
@@ -55,11 +55,11 @@ tallest_words tallest = codes ": packets of data, up to " ++ decimal tallest
 unfoldable pub panel_words : List ℕ → ℕ → List ℕ
 panel_words title tallest = title ++ tallest_words tallest
 
--- the same, above the chart
+-- these words, above the chart
 unfoldable pub panel : ChartParts → List ℕ → ℕ → List ℕ
 panel c title top = words (codes "panel") (point 40 top) (panel_words title c.tallest)
 
--- the line on which the bars stand
+-- the line below the bars
 unfoldable pub base : ℕ → ℕ → List ℕ
 base bottom right = line (codes "base") (point 40 bottom) (point right bottom) (codes "no packets")
 

@@ -15,15 +15,15 @@ use Rattle.bridge_pictures.specs.Walk.{is_later}
 use Rattle.bridge_pictures.specs.declared.ladder.phases.Fate.TheVariants as comes
 use Rattle.bridge_pictures.specs.declared.walk.FlowStep.{FlowStep}
 
--- how an arrow looks: a repeat of the latest number, a later one, or one that is not
+-- how an arrow looks: that of a packet with the latest number, with a later one, or with an earlier one
 abbrev pub seen_class : ℕ → List ℕ
 seen_class ahead = if ahead == 0 then codes "again" else if is_later ahead then codes "took" else codes "late"
 
--- the phases of both ends where a packet comes
+-- the phases of both ends when a packet comes
 abbrev pub phases_moved : Drawing → Side → Header → Drawing
 phases_moved d from header = turned_to d (other from) (phase_came (phase_of d (other from)) (packet_type header.kind) comes.Took)
 
--- the sender's phase where a packet goes
+-- the sender's phase when a packet goes
 abbrev pub sender_moved : Drawing → Side → Header → Drawing
 sender_moved d from header = turned_to d from (phase_sent (phase_of d from) header.kind)
 
@@ -39,11 +39,11 @@ step_drawn d step e packet = packet_drawn d step.from (seen_class step.ahead) pa
 abbrev pub ladder_kind : PictureKind Drawing
 ladder_kind = record { drawn = step_drawn; text = picture }
 
--- what the pieces of an input come to
+-- the result of the pieces of an input
 abbrev pub flow_ladder_pieces : ℕ → List ℕ → PiecesResult (Unit {0}) (RecordsState (FlowDrawing Drawing))
 flow_ladder_pieces flow input = records_of (flow_work ladder_kind) (drawing_of flow first_drawing) input
 
--- What `ladder --flow` writes of an input.
+-- What `ladder --flow` writes for an input.
 abbrev pub flow_ladder_text : ℕ → List ℕ → List ℕ
 flow_ladder_text flow input = text_of_pieces (records_work (flow_work ladder_kind)) (flow_ladder_pieces flow input)
 

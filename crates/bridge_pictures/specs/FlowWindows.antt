@@ -34,7 +34,7 @@ first_flow_windows = record { client = first_state; server = first_state; graph 
 abbrev pub is_confirm : ℕ → Bool
 is_confirm kind = kind == confirm_l || kind == confirm_r
 
--- what an option confirms, if it does
+-- what an option confirms, if anything
 abbrev pub confirm_words : Result Entry OptFault → List ℕ
 confirm_words (Ok o) = if is_confirm o.kind then codes " " ++ option_text o.kind o.body else []
 confirm_words (Err fault) = []
@@ -51,7 +51,7 @@ confirms_of packet = all_confirms (options_of packet.options (is_data (packet_ty
 unfoldable pub confirms_note : Side → RecordParts → List ℕ → List ℕ
 confirms_note from e said = stamp e ++ codes " " ++ side_name from ++ said
 
--- both senders are told of a packet that this side sent
+-- both senders note a packet that this side sent
 unfoldable pub senders_told : FlowWindowsParts → Side → Parts → FlowWindowsParts
 senders_told f Client packet = record f { client = send_seen f.client packet.header; server = report_seen f.server packet }
 senders_told f Server packet = record f { client = report_seen f.client packet; server = send_seen f.server packet.header }
@@ -61,12 +61,12 @@ unfoldable pub packet_column : FlowWindowsParts → RecordParts → Parts → Fl
 packet_column f e packet =
     record f { graph = counts_drawn f.graph (counts_seen f.client) (counts_seen f.server) (record_words e packet) }
 
--- what a packet confirms is below the charts
+-- what a packet confirms is written below the charts
 unfoldable pub confirms_told : FlowWindowsParts → Side → RecordParts → Parts → FlowWindowsParts
 confirms_told f from e packet =
     if nat_lt 0 (length (confirms_of packet)) then record f { graph = noted_below f.graph (confirms_note from e (confirms_of packet)) } else f
 
--- a packet with a later number is news to the senders
+-- the senders note a packet with a later number
 abbrev pub told_if_later : FlowWindowsParts → FlowStep → Parts → FlowWindowsParts
 told_if_later f step packet = if is_later step.ahead then senders_told f step.from packet else f
 
@@ -82,11 +82,11 @@ confirms_heading = codes "record, its time, end, and what it confirms of feature
 abbrev pub windows_kind : PictureKind FlowWindowsParts
 windows_kind = record { drawn = step_charted; text = λ f. graph_picture f.graph confirms_heading [] [] }
 
--- what the pieces of an input come to
+-- the result of the pieces of an input
 abbrev pub flow_windows_pieces : ℕ → List ℕ → PiecesResult (Unit {0}) (RecordsState (FlowDrawing FlowWindowsParts))
 flow_windows_pieces flow input = records_of (flow_work windows_kind) (drawing_of flow first_flow_windows) input
 
--- What `windows --flow` writes of an input.
+-- What `windows --flow` writes for an input.
 abbrev pub flow_windows_text : ℕ → List ℕ → List ℕ
 flow_windows_text flow input = text_of_pieces (records_work (flow_work windows_kind)) (flow_windows_pieces flow input)
 

@@ -1,4 +1,4 @@
--- The graph: a chart for each end over the same columns, and below them what was told of features (own).
+-- The graph: a chart for each end over the same columns, and below them the values of features (own).
 use Rattle.std.specs.Prelude.{ℕ, ◌+◌, ◌*◌, ◌%◌, ◌==◌, nat_lt, max, if◌then◌else◌, List, [], ◌++◌, codes, decimal}
 use Rattle.bridge_pictures.specs.Bars.{column_at, downward, group_end}
 use Rattle.bridge_pictures.specs.Chart.{ChartParts, chart, chart_high, column_drawn, first_chart}
@@ -35,7 +35,7 @@ note_at notes = 18 * notes
 unfoldable pub column_number : ℕ → List ℕ
 column_number column = words (codes "at") (point (column_at column) 0) (decimal column)
 
--- the same of every twentieth column
+-- the number of every twentieth column, below it
 abbrev pub axis_mark : ℕ → List ℕ
 axis_mark column = if column % 20 == 0 then column_number column else []
 
@@ -49,7 +49,7 @@ column_of g column client server happened =
       axis = g.axis ++ axis_mark column;
     }
 
--- Draws a column: what both ends count where this happened.
+-- Draws a column: what both ends count after this happened.
 unfoldable pub counts_drawn : GraphParts → Counts → Counts → List ℕ → GraphParts
 counts_drawn g client server happened = column_of g (one_further g.columns) client server happened
 
@@ -57,11 +57,11 @@ counts_drawn g client server happened = column_of g (one_further g.columns) clie
 unfoldable pub noted_below : GraphParts → List ℕ → GraphParts
 noted_below g note = record g { notes = one_further g.notes; told = g.told ++ words (codes "note") (point 40 (note_at g.notes)) note }
 
--- where the client's chart stands on its line
+-- where the line of the client's chart is
 abbrev pub client_bottom : GraphParts → ℕ
 client_bottom g = 60 + chart_high g.client
 
--- where the server's chart stands on its line
+-- where the line of the server's chart is
 abbrev pub server_bottom : GraphParts → ℕ
 server_bottom g = client_bottom g + 60 + chart_high g.server
 
@@ -73,11 +73,11 @@ right_of g = column_at (one_further g.columns)
 abbrev pub graph_size : GraphParts → Point
 graph_size g = point (max 900 (right_of g + 60)) (server_bottom g + 82 + note_at g.notes + 20)
 
--- where the client's chart stands
+-- where the client's chart is
 abbrev pub client_span : GraphParts → Span
 client_span g = record { top = 60; bottom = client_bottom g; right = right_of g }
 
--- where the server's chart stands
+-- where the server's chart is
 abbrev pub server_span : GraphParts → Span
 server_span g = record { top = client_bottom g + 60; bottom = server_bottom g; right = right_of g }
 
@@ -93,7 +93,7 @@ server_chart g marks = chart g.server (codes "server") (server_span g) marks
 unfoldable pub columns_numbered : GraphParts → List ℕ
 columns_numbered g = downward (server_bottom g + 26) ++ g.axis ++ group_end
 
--- and below these the notes, under what they are
+-- and below these the notes, under their heading
 unfoldable pub notes_told : GraphParts → List ℕ → List ℕ
 notes_told g heading =
     words (codes "panel") (point 40 (server_bottom g + 60)) heading ++ downward (server_bottom g + 82) ++ g.told ++ group_end

@@ -1,5 +1,4 @@
--- What a line of a transcript draws: of those that `run`, `replay` and `listen` write, and between them what
--- came (own).
+-- What a line draws of a transcript that `run`, `replay` or `listen` wrote, or that the launcher added about what came (own).
 use Rattle.std.specs.Prelude.{ℕ, ◌^◌, ◌-◌, ◌==◌, ◌||◌, ◌&&◌, not, nat_lt, Bool, is_some, if◌then◌else◌, List, [], ◌∷◌, length, take, slice_index, codes, Option, Some, None, option_and_then, Result, Ok, Err}
 use Rattle.std.specs.Str.{bytes_eq}
 use Rattle.dccp_listener.specs.declared.peer.Peer.{Peer}
@@ -34,7 +33,7 @@ side_of_word word =
     else if bytes_eq word (codes "server") then Some Server
     else None
 
--- what became of a frame, by the first word of what was answered
+-- what became of a frame, from the first word of the answer
 abbrev pub came_of : List ℕ → Option Fate
 came_of word =
     if bytes_eq word (codes "took") then Some comes.Took
@@ -48,7 +47,7 @@ came_of word =
 abbrev pub frame_index : List ℕ → Option ℕ
 frame_index text = number_below (2 ^ 47) text
 
--- the frame of a sender, if this is an index
+-- the frame of a sender with this index, if it is one
 abbrev pub frame_from : Side → Option ℕ → Option (Side × ℕ)
 frame_from from index = option_and_then (λ i. Some (from, i)) index
 
@@ -64,7 +63,7 @@ named_frame (letter ∷ index) =
 abbrev pub is_line_number : List ℕ → Bool
 is_line_number word = is_some (number_below (2 ^ 32) (without_colon word))
 
--- a frame came, by its name and the first word of the answer
+-- a frame came, from its name and the first word of the answer
 abbrev pub came : List ℕ → List ℕ → Option LadderLine
 came name answer = option_and_then (λ f. option_and_then (λ c. Some (draws.Came f.0 f.1 c)) (came_of answer)) (named_frame (without_colon name))
 
@@ -72,11 +71,11 @@ came name answer = option_and_then (λ f. option_and_then (λ c. Some (draws.Cam
 abbrev pub asked_drawn : List ℕ → Demand → Option LadderLine
 asked_drawn side what = option_and_then (λ s. Some (draws.Asked s what)) (side_of_word (without_colon side))
 
--- what an abort came to
+-- the result of an abort
 abbrev pub abort_asked : List ℕ → Demand
 abort_asked answer = if bytes_eq answer (codes "ok") then asks.GivenUp else asks.Other
 
--- what a timer that ran out asks for, if it had something to do
+-- what the end is asked for by a timer that ran out, if the timer had something to do
 abbrev pub timer_asked : List ℕ → List ℕ → Demand
 timer_asked timer answer =
     if not (bytes_eq answer (codes "fired")) then asks.Other
@@ -84,7 +83,7 @@ timer_asked timer answer =
     else if bytes_eq timer (codes "rto:") then asks.TimedOut
     else asks.Other
 
--- what became of a packet of a peer: one for which a full listener has no room is answered by a Reset
+-- what became of a packet of a peer: a full listener answers it by a Reset
 abbrev pub peer_came_of : List ℕ → Option Fate
 peer_came_of answer = if bytes_eq answer (codes "busy") then Some comes.SentReset else came_of answer
 
@@ -93,12 +92,11 @@ abbrev pub peer_by : Peer → Option Fate → LadderLine
 peer_by peer (Some c) = draws.PeerCame peer c
 peer_by peer None = draws.ListenerTold
 
--- what happened to a peer, by its name and the first word of the answer
+-- what happened to a peer, from its name and the first word of the answer
 abbrev pub peer_event : List ℕ → List ℕ → Option LadderLine
 peer_event name answer = option_and_then (λ peer. Some (peer_by peer (peer_came_of answer))) (peer_of (without_colon name))
 
--- An event of two ends, or of a listener's peer, by the words after its number: an end gives up that aborts, or whose
--- TIMEWAIT is over.
+-- An event of two ends or of a listener's peer, from the words after its number. An end gives up if it aborts or if its TIMEWAIT is over.
 abbrev pub event : List ℕ → List ℕ → List ℕ → List ℕ → Option LadderLine
 event second third fourth fifth =
     if bytes_eq second (codes "open:") then Some (draws.Asked Client asks.Other)
@@ -108,12 +106,12 @@ event second third fourth fifth =
     else if (bytes_eq second (codes "send") || bytes_eq second (codes "prefer")) || bytes_eq second (codes "close") then asked_drawn third asks.Other
     else peer_event second third
 
--- what became of a frame that came to an end alone, if one came
+-- what became of a frame that came to a single end, if one came
 abbrev pub alone_by : Option Fate → LadderLine
 alone_by (Some c) = draws.CameAlone c
 alone_by None = draws.AskedAlone
 
--- what an end alone answered
+-- what a single end answered
 abbrev pub answered_alone : List ℕ → LadderLine
 answered_alone answer = alone_by (came_of answer)
 
@@ -121,7 +119,7 @@ answered_alone answer = alone_by (came_of answer)
 abbrev pub end_drawn : List ℕ → Option LadderLine
 end_drawn side = option_and_then (λ s. Some (draws.Ended s)) (side_of_word side)
 
--- What a line tells that is no frame's, by its first five words: a number with a colon is a replay's.
+-- What a line without a frame means, from its first five words: a number with a colon is a replay's.
 unfoldable pub told_drawn : List ℕ → List ℕ → List ℕ → List ℕ → List ℕ → Option LadderLine
 told_drawn first second third fourth fifth =
     if bytes_eq first (codes "end") then end_drawn second
@@ -131,7 +129,7 @@ told_drawn first second third fourth fifth =
     else if nat_lt (length (without_colon first)) (length first) then Some (answered_alone second)
     else event second third fourth fifth
 
--- what was found, or else an unknown word at this column
+-- what was found, or the fault of an unknown word at this column
 abbrev pub or_unknown : ℕ → Option LadderLine → Result LadderLine LineFault
 or_unknown column (Some drawn) = Ok drawn
 or_unknown column None = Err (fault_at column why.UnknownWord)
@@ -140,7 +138,7 @@ or_unknown column None = Err (fault_at column why.UnknownWord)
 abbrev pub peer_sent : List ℕ → List ℕ → Option LadderLine
 peer_sent name frame = option_and_then (λ peer. Some (draws.SentToPeer peer frame)) (peer_of name)
 
--- a frame of an end was sent, or else one to a peer
+-- a frame of an end was sent, or a frame to a peer
 abbrev pub sent_by_name : Option (Side × ℕ) → List ℕ → List ℕ → Option LadderLine
 sent_by_name (Some f) name frame = Some (draws.Sent f.0 f.1 frame)
 sent_by_name None name frame = peer_sent name frame
@@ -154,7 +152,7 @@ abbrev pub sent_drawn : WordsLeft → Result LadderLine LineFault
 sent_drawn left =
     word_read hex_kind.reads (first_word (later left)) >>= (λ frame. or_unknown (first_word left).column (sent_frame (first_word left).text frame))
 
--- what a line tells that is no frame's, by its first word, in this column, and those that are left
+-- what a line without a frame means, from its first word, which is at this column, and the remaining words
 unfoldable pub by_first_word : ℕ → List ℕ → WordsLeft → Result LadderLine LineFault
 by_first_word column first left =
     or_unknown column
@@ -170,7 +168,7 @@ abbrev pub arrival_by : Option Peer → WordsLeft → Result LadderLine LineFaul
 arrival_by (Some peer) left = arrival_drawn (Some peer) (later left)
 arrival_by None left = arrival_drawn None left
 
--- the same, by the first word
+-- what follows `sent` or `came`, or a line without a frame, from the first word
 abbrev pub came_drawn : WordsLeft → Result LadderLine LineFault
 came_drawn left = arrival_by (peer_of (first_word left).text) left
 

@@ -10,7 +10,7 @@ use Rattle.bridge_pictures.specs.Svg.{label, line, words}
 use Rattle.bridge_pictures.specs.declared.ladder.peers.Lane.{Lane}
 use Rattle.bridge_pictures.specs.declared.svg.Point.{Point}
 
--- The peers that were seen, as flows in the order in which they were, and the line of each.
+-- The peers that were seen, as flows in the order in which they were seen, and the line of each.
 pub record PeersParts : Type 0 where
   pub flows : List Flow
   pub lanes : List Lane
@@ -43,7 +43,7 @@ is_new_lane p number = nat_lt (length p.lanes) number
 abbrev pub lane_from : ℕ → ℕ → Lane
 lane_from number row = record { x = lane_at number; top = row }
 
--- the peer of this number has a line, which begins in this row if it is new
+-- the peer of this number has a line, which begins in this row if the peer is new
 abbrev pub lane_begun : PeersParts → ℕ → ℕ → PeersParts
 lane_begun p number row = if is_new_lane p number then record p { lanes = p.lanes ++ lane_from number row ∷ [] } else p
 
@@ -59,7 +59,7 @@ peer_entered p peer row = lane_begun (peer_seen p peer) (peer_number p peer) row
 unfoldable pub lane_name : ℕ → ℕ → Peer → List ℕ
 lane_name x row peer = words (codes "peer") (point (x - 5) (height_of row - 5)) (peer_text peer)
 
--- What is drawn where a peer is seen in this row: its name, if it is new.
+-- What is drawn when a peer is seen in this row: its name, if it is new.
 abbrev pub entry : PeersParts → Peer → ℕ → List ℕ
 entry p peer row = if is_new_lane p (peer_number p peer) then lane_name (lane_of p peer) row peer else []
 
@@ -67,7 +67,7 @@ entry p peer row = if is_new_lane p (peer_number p peer) then lane_name (lane_of
 unfoldable pub arrow_from : List ℕ → ℕ → ℕ → List ℕ → List ℕ
 arrow_from class x row said = line class (point x (height_of row)) (line_place Client row) said
 
--- the arrow of a packet that goes there
+-- the arrow of a packet that goes to a peer whose line lies there
 unfoldable pub arrow_to : ℕ → ℕ → List ℕ → List ℕ
 arrow_to x row said = line (codes "sent") (line_place Client row) (point x (height_of row)) said
 
@@ -75,7 +75,7 @@ arrow_to x row said = line (codes "sent") (line_place Client row) (point x (heig
 unfoldable pub text_at_lane : ℕ → ℕ → List ℕ → List ℕ
 text_at_lane x row said = label (codes "right") (point (x + 10) (height_of row + 4)) said
 
--- the line of a peer down to this row, where no phase is told
+-- the line of a peer down to this row, if no phase is known
 unfoldable pub lane_drawn : ℕ → Lane → List ℕ
 lane_drawn row l = line (codes "plain") (point l.x (height_of l.top)) (point l.x (height_of row)) (codes "its phases are not told")
 
@@ -83,6 +83,6 @@ lane_drawn row l = line (codes "plain") (point l.x (height_of l.top)) (point l.x
 unfoldable pub lanes_drawn : PeersParts → ℕ → List ℕ
 lanes_drawn p row = flat_map (lane_drawn row) p.lanes
 
--- The size of a listener's ladder with so many rows.
+-- The size of a listener's ladder with this many rows.
 abbrev pub listener_size : PeersParts → ℕ → Point
 listener_size p rows = point (1150 + 160 * min (length p.lanes) 4294967295) (height_of rows + 40)

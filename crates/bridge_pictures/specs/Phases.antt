@@ -1,4 +1,4 @@
--- The phases of an end, by what it is seen to do (RFC 4340, section 8.5).
+-- The phases of an end, from what it is seen to do (RFC 4340, section 8.5).
 use Rattle.std.specs.Prelude.{ℕ, ◌==◌, if◌then◌else◌, List, codes}
 use Rattle.dccp_packets.specs.declared.header.Kind.{Kind}
 use Rattle.dccp_packets.specs.declared.header.Kind.TheVariants as kinds
@@ -23,7 +23,7 @@ phase_class phases.CloseReq = codes "CLOSEREQ"
 phase_class phases.Closing = codes "CLOSING"
 phase_class phases.TimeWait = codes "TIMEWAIT"
 
--- the phase of an end that sent a Reset of this code: a connection ends by it, except by Packet Error in REQUEST
+-- the phase of an end that sent a Reset of this code: the connection ends, except by Packet Error in REQUEST
 abbrev pub phase_reset : Phase → ℕ → Phase
 phase_reset phases.Closed code = phases.Closed
 phase_reset phases.Listen code = phases.Listen
@@ -40,7 +40,7 @@ phase_sent phase (kinds.Close ack) = phases.Closing
 phase_sent phase (kinds.Reset ack code detail) = phase_reset phase code
 phase_sent phase kind = phase
 
--- the phase of an end to which a packet of this type came, by what became of it
+-- the phase of an end to which a packet of this type came, from what became of the packet
 abbrev pub phase_came : Phase → PacketType → Fate → Phase
 phase_came phase kind comes.Took = (after phase kind).0
 phase_came phase kind comes.WasReset = phases.TimeWait

@@ -1,4 +1,4 @@
--- Where the parts of a ladder stand, and what they look like (own).
+-- Where the parts of a ladder are, and what they look like (own).
 use Rattle.std.specs.Prelude.{ℕ, ◌+◌, ◌*◌, Bool, if◌then◌else◌, List, codes}
 use Rattle.dccp_states.specs.declared.phase.Phase.{Phase}
 use Rattle.world_events.specs.Actors.{other}
@@ -10,7 +10,7 @@ use Rattle.bridge_pictures.specs.declared.ladder.phases.Fate.{Fate}
 use Rattle.bridge_pictures.specs.declared.ladder.phases.Fate.TheVariants as comes
 use Rattle.bridge_pictures.specs.declared.svg.Point.{Point}
 
--- a place so far from the left edge and from the top
+-- a place this far from the left edge and from the top
 abbrev pub point : ℕ → ℕ → Point
 point x y = record { x = x; y = y }
 
@@ -32,12 +32,12 @@ abbrev pub label_at : Side → ℕ → Point
 label_at Client row = point 450 (height_of row + 4)
 label_at Server row = point 870 (height_of row + 4)
 
--- how a text beside a side's line is set
+-- which end of a text is at its place beside a side's line
 abbrev pub side_class : Side → List ℕ
 side_class Client = codes "left"
 side_class Server = codes "right"
 
--- how the arrow of a frame looks, by what became of it
+-- how the arrow of a frame looks, from what became of it
 abbrev pub came_class : Fate → List ℕ
 came_class comes.Took = codes "took"
 came_class comes.Dropped = codes "dropped"
@@ -45,7 +45,7 @@ came_class comes.Synced = codes "synced"
 came_class comes.WasReset = codes "was-reset"
 came_class comes.SentReset = codes "sent-reset"
 
--- the same, where a repeat looks like one
+-- how the arrow of a frame looks, or that of a repeat
 abbrev pub arrow_class : Fate → Bool → List ℕ
 arrow_class came again = if again then codes "again" else came_class came
 
@@ -61,7 +61,7 @@ arrow class from sent came words = line class (line_place from sent) (line_place
 unfoldable pub segment : Side → Phase → ℕ → ℕ → List ℕ
 segment side phase since row = line (phase_class phase) (line_place side since) (line_place side row) (phase_class phase)
 
--- A side's line down to this row, where no phase is told.
+-- A side's line down to this row, if no phase is known.
 unfoldable pub plain : Side → ℕ → List ℕ
 plain side row = line (codes "plain") (line_place side 0) (line_place side row) (codes "its phases are not told")
 
@@ -73,7 +73,7 @@ lost side row = line (codes "lost") (line_place side row) (point 660 (height_of 
 abbrev pub above : Side → Point
 above side = point (line_of side) 48
 
--- the size of a ladder with so many rows
+-- the size of a ladder with this many rows
 abbrev pub ladder_size : ℕ → Point
 ladder_size rows = point 1320 (height_of rows + 40)
 

@@ -18,7 +18,7 @@ pub record WorldDrawing : Type 0 where
   pub client : TraceParts
   pub server : TraceParts
 
--- A schedule while its windows are drawn: where it stands, and what is drawn.
+-- A schedule while its windows are drawn: how far it was played, and what was drawn.
 pub record PlayState : Type 0 where
   pub play : Play
   pub drawn : WorldDrawing
@@ -35,17 +35,17 @@ first_played = record { play = first_play; drawn = first_world_drawing }
 abbrev pub column_in_world : WorldDrawing → ControlledWorld Both → List ℕ → GraphParts
 column_in_world d world said = counts_drawn d.graph (counts_of (end_of_side world Client)) (counts_of (end_of_side world Server)) said
 
--- what is told and kept of the server after a column
+-- the server after a column: what is written and kept of it
 abbrev pub server_watched : WorldDrawing → ControlledWorld Both → WorldDrawing
 server_watched d world =
     record d { graph = end_told d.graph d.server Server world; server = end_watched d.server d.graph.columns Server world }
 
--- the same of the client, and then of the server
+-- what is written and kept after a column of the client, and then of the server
 abbrev pub both_watched : WorldDrawing → ControlledWorld Both → WorldDrawing
 both_watched d world =
     server_watched (record d { graph = end_told d.graph d.client Client world; client = end_watched d.client d.graph.columns Client world }) world
 
--- Draws the column of an event that left this world, with what is told of both ends.
+-- Draws the column of an event that left this world, with what is written about both ends.
 unfoldable pub world_drawn : WorldDrawing → ControlledWorld Both → List ℕ → WorldDrawing
 world_drawn d world said = both_watched (record d { graph = column_in_world d world said }) world
 
@@ -54,15 +54,15 @@ abbrev pub drawn_in : PlayState → Option (ControlledWorld Both) → List ℕ �
 drawn_in p None said = p
 drawn_in p (Some world) said = record p { drawn = world_drawn p.drawn world said }
 
--- What a line said is drawn, if it said something: what `run` writes of it.
+-- If a line said something, what `run` writes of it is drawn.
 unfoldable pub event_drawn : PlayState → List ℕ → PlayState
 event_drawn p said = if nat_lt 0 (length said) then drawn_in p p.play.world said else p
 
--- the same, where the schedule goes on from there
+-- the same, and the schedule goes on from there
 abbrev pub after_line : PlayState → Play → List ℕ → PlayState
 after_line p next said = event_drawn (record p { play = next }) said
 
--- what a line comes to, by what it comes to in `run`
+-- the result of a line, from its result in `run`
 abbrev pub played_by : PlayState → LineVerdict Scene Play → LineVerdict (Unit {0}) PlayState
 played_by p (Refused fault) = Refused fault
 played_by p (Accepted deed next) = Accepted None (after_line p next (line_text run_job deed))
@@ -71,13 +71,12 @@ played_by p (Accepted deed next) = Accepted None (after_line p next (line_text r
 abbrev pub notes_heading : List ℕ
 notes_heading = codes "event, end, and its features as number=Here/There, * in CHANGING, ! in UNSTABLE"
 
--- The picture after the last event, which left this world: the frames of each end are lost that the other never
--- processed.
+-- The picture after the last event, which left this world. A frame is marked as lost if the other end never processed it.
 unfoldable pub world_picture : WorldDrawing → ControlledWorld Both → List ℕ
 world_picture d world =
     graph_picture d.graph notes_heading (loss_marks d.client (half_of world.world Server).processed) (loss_marks d.server (half_of world.world Client).processed)
 
--- the picture, by the world that the events left, if there were any
+-- the picture, from the world that the events left, if there were any
 abbrev pub picture_in : WorldDrawing → Option (ControlledWorld Both) → List ℕ
 picture_in d None = graph_picture d.graph notes_heading [] []
 picture_in d (Some world) = world_picture d world
@@ -86,15 +85,15 @@ picture_in d (Some world) = world_picture d world
 unfoldable pub played_picture : PlayState → List ℕ
 played_picture p = picture_in p.drawn p.play.world
 
--- What `windows` makes of the lines: each is played, and at the end stands the picture.
+-- What `windows` makes of the lines: each is played, and the picture comes at the end.
 abbrev pub windows_job : Job (Unit {0}) PlayState
 windows_job = record { judged = λ p number line. played_by p (run_job.judged p.play number line); told = λ _. []; ending = played_picture }
 
--- what the lines of a schedule come to
+-- the result of the lines of a schedule
 abbrev pub windows_gone : List ℕ → LinesResult (Unit {0}) PlayState
 windows_gone input = gone_through windows_job first_played input
 
--- What `windows` writes of a schedule: the picture, or nothing where a line is refused.
+-- What `windows` writes of a schedule: the picture, or nothing if a line is refused.
 abbrev pub windows_text : List ℕ → List ℕ
 windows_text input = text_apart windows_job (windows_gone input)
 

@@ -21,14 +21,14 @@ use Rattle.bridge_pictures.specs.declared.ladder.scene.Subject.{Subject}
 use Rattle.bridge_pictures.specs.declared.ladder.scene.Subject.TheVariants as subjects
 use Rattle.bridge_pictures.specs.declared.svg.Point.{Point}
 
--- The line of one end: its phase, since which row it is to be drawn, and the frames that it sent.
+-- The line of one end: its phase, the row from which it is still to be drawn, and the frames that it sent.
 pub record LifelineParts : Type 0 where
   pub phase : Phase
   pub since : ℕ
   pub frames : List Flight
 
--- A ladder while it is drawn: how many rows it has, whose lines it has, both lines, those of a listener's peers, and the
--- elements that are drawn already.
+-- A ladder while it is drawn: how many rows it has, whose lines they are, both lines, those of a listener's peers, and the elements that are
+-- drawn already.
 pub record Drawing : Type 0 where
   pub rows : ℕ
   pub subject : Subject
@@ -115,11 +115,11 @@ with_lifeline d Server l = record d { server = l }
 abbrev pub with_text : Drawing → List ℕ → Drawing
 with_text d text = record d { body = d.body ++ text }
 
--- the same drawing, of these
+-- the same drawing, with the lines of these ends
 abbrev pub drawn_of : Subject → Drawing → Drawing
 drawn_of subject d = record d { subject = subject }
 
--- the left line is an end alone
+-- the left line is a single end
 abbrev pub is_one_end : Subject → Bool
 is_one_end subjects.BothEnds = false
 is_one_end subjects.OneEnd = true
@@ -158,7 +158,7 @@ turned_by d to (Some kind) came = turned_to d to (phase_came (phase_of d to) kin
 abbrev pub arrow_arrived : Drawing → Side → Flight → Fate → List ℕ → Drawing
 arrow_arrived d from f came words = turned_by (with_text d (arrow (arrow_class came f.came) from f.row d.rows words)) (other from) f.kind came
 
--- a frame came, if this side sent one of that index
+-- the frame of this index came, if this side sent one
 abbrev pub arrived_if : Drawing → Side → Option Flight → Fate → List ℕ → Drawing
 arrived_if d from None came words = d
 arrived_if d from (Some f) came words = arrow_arrived d from f came words
@@ -167,7 +167,7 @@ arrived_if d from (Some f) came words = arrow_arrived d from f came words
 abbrev pub delivered_in_row : Drawing → Side → ℕ → Fate → List ℕ → Drawing
 delivered_in_row d from index came words = arrived_if (come_from d from index) from (flight_of (lifeline_of d from) index) came words
 
--- The frame of this side and index came, and that became of it.
+-- The frame of this side and index came, and this became of it.
 unfoldable pub delivered : Drawing → Side → ℕ → Fate → List ℕ → Drawing
 delivered d from index came words = delivered_in_row (row_told d (other from) words) from index came words
 
@@ -202,11 +202,11 @@ entered_in_row d peer = record d { peers = peer_entered d.peers peer d.rows; bod
 abbrev pub heard_in_row : Drawing → Peer → List ℕ → List ℕ → Drawing
 heard_in_row d peer class words = with_text (entered_in_row d peer) (arrow_from class (lane_of d.peers peer) d.rows words)
 
--- A listener was asked for something, or tells of its flows.
+-- A listener was asked for something, or lists its flows.
 unfoldable pub listener_told : Drawing → List ℕ → Drawing
 listener_told d words = row_told (drawn_of subjects.Listener d) Client words
 
--- A packet of a peer came to a listener, and looks so by what became of it.
+-- A packet of a peer came to a listener. Its look shows what became of it.
 unfoldable pub peer_heard : Drawing → Peer → List ℕ → List ℕ → Drawing
 peer_heard d peer class words = heard_in_row (listener_told d words) peer class words
 
@@ -222,22 +222,23 @@ peer_answered d peer words = answered_in_row (listener_told d words) peer words
 abbrev pub told_at_lane : Drawing → Peer → List ℕ → Drawing
 told_at_lane d peer words = with_text (entered_in_row d peer) (text_at_lane (lane_of d.peers peer) d.rows words)
 
--- What a packet says that came in the row that was begun last: from a peer, or from the other end.
+-- What a packet says that came in the latest row: from a peer, or from the other end.
 unfoldable pub arrival_drawn_beside : Drawing → Option Peer → List ℕ → Drawing
 arrival_drawn_beside d (Some peer) words = told_at_lane d peer words
 arrival_drawn_beside d None words = with_text d (text_beside Server d.rows words)
 
--- what is drawn at last: of both ends the lines to the bottom, and the frames that never came; of others no phase is told
+-- what is drawn at the end: for both ends the lines to the bottom, and the frames that never came; for others, whose phases are not known, the
+-- lines alone
 abbrev pub parts_by_subject : Subject → Drawing → List ℕ
 parts_by_subject subjects.BothEnds d = two_ends_rest d
 parts_by_subject subjects.OneEnd d = plain Client (next_row d.rows) ++ plain Server (next_row d.rows)
 parts_by_subject subjects.Listener d = plain Client (next_row d.rows) ++ lanes_drawn d.peers (next_row d.rows)
 
--- What is drawn at last.
+-- What is drawn at the end.
 unfoldable pub last_parts : Drawing → List ℕ
 last_parts d = parts_by_subject d.subject d
 
--- What the lines are called; peers have their names where their lines begin. Only of both ends phases are told, by colours.
+-- What the lines are called; peers have their names where their lines begin. Colours show phases, and only in pictures of both ends.
 abbrev pub names : Subject → List ℕ
 names subjects.BothEnds = key ++ name Client (codes "client") ++ name Server (codes "server")
 names subjects.OneEnd = name Client (codes "this end") ++ name Server (codes "its peer")

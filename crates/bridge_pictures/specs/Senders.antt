@@ -1,5 +1,5 @@
--- CCID 2, told what is seen of a sender: its packets of data, and the Ack Vectors that come to it (RFC 4341, section 5,
--- for the windows; the rest is own).
+-- CCID 2, given what is seen of a sender: its packets of data, and the Ack Vectors that come to it (RFC 4341, section 5, for the windows; the
+-- rest is own).
 use Rattle.std.specs.Prelude.{ℕ, if◌then◌else◌, Option, Some, None}
 use Rattle.ccid_two.specs.Window.{State, ccid_control}
 use Rattle.congestion_trait.specs.Control.{may_send}
@@ -20,7 +20,7 @@ abbrev pub long_number : Number → Option ℕ
 long_number (Long n) = Some n
 long_number (Short n) = None
 
--- the number of a packet of data that is counted, by its type
+-- the number of a packet of data that is counted, from its type
 abbrev pub data_number_of : PacketType → Number → Option ℕ
 data_number_of types.Data number = long_number number
 data_number_of types.DataAck number = long_number number
@@ -40,7 +40,7 @@ abbrev pub vectors_of_type : PacketType → Number → Option ℕ → Option ℕ
 vectors_of_type types.Sync number ack = None
 vectors_of_type _ number ack = ack_beside number ack
 
--- the same of a header
+-- the number from which the Ack Vectors of a packet with this header report
 abbrev pub vectors_from : Header → Option ℕ
 vectors_from header = vectors_of_type (packet_type header.kind) header.number (ack_of header.kind)
 
@@ -53,7 +53,7 @@ send_of s (Some number) = if may_send ccid_control s then ccid_control.with_sent
 unfoldable pub send_seen : State → Header → State
 send_seen s header = send_of s (data_number header)
 
--- a report came, where the peer acknowledges every second packet
+-- a report came, of a peer that acknowledges every second packet
 abbrev pub report_given : State → Option VectorReport → State
 report_given s None = s
 report_given s (Some report) = ccid_control.with_report s (state_at report.ack report.bytes) 2

@@ -16,6 +16,6 @@ three_digits number = (48 + number / 100) ∷ (48 + number / 10 % 10) ∷ (48 + 
 abbrev pub stamp : RecordParts → List ℕ
 stamp e = decimal e.number ++ codes " " ++ decimal e.seconds ++ codes "." ++ three_digits (milliseconds e.nanos e.fraction)
 
--- the same, and what the packet in the record says
+-- a record's number and time, and what the packet in the record says
 unfoldable pub record_words : RecordParts → Parts → List ℕ
 record_words e packet = stamp e ++ words_text packet

@@ -2,7 +2,7 @@
 use Rattle.std.specs.Prelude.{ℕ, ◌==◌, nat_lt, Bool, if◌then◌else◌, List, [], ◌∷◌, ◌++◌, flat_map, length, min, take, codes, decimal}
 use Rattle.bridge_pictures.specs.declared.svg.Point.{Point}
 
--- a byte of text as XML has it between tags, which keeps two for itself
+-- a byte of text as XML writes it between tags, where it reserves two
 abbrev pub escaped_byte : ℕ → List ℕ
 escaped_byte byte = if byte == 60 then codes "&lt;" else if byte == 38 then codes "&amp;" else byte ∷ []
 
@@ -30,7 +30,7 @@ text_begin class at = begin (codes "text") class ++ attribute (codes "x") at.x +
 abbrev pub is_cut : List ℕ → Bool
 is_cut words = nat_lt 60 (length words)
 
--- what of a text a picture has
+-- the part of a text that a picture has
 unfoldable pub label_front : List ℕ → List ℕ
 label_front words = if is_cut words then take (min (length words) 58) words else words
 
@@ -42,7 +42,7 @@ cut_mark words = if is_cut words then codes ".." else []
 unfoldable pub cut_text : List ℕ → List ℕ
 cut_text words = label_front words ++ cut_mark words
 
--- what of a text is between tags
+-- the part of a text that is between tags
 unfoldable pub text_inside : List ℕ → List ℕ
 text_inside words = escaped (label_front words) ++ cut_mark words
 
@@ -64,19 +64,19 @@ line_begin class from to =
 abbrev pub line : List ℕ → Point → Point → List ℕ → List ℕ
 line class from to words = line_begin class from to ++ title words ++ codes "</line>\n"
 
--- the box that is seen, up to its width
+-- the view box, up to its width
 unfoldable pub box_begin : ℕ → List ℕ
 box_begin width = codes " viewBox='0 0 " ++ decimal width
 
--- its height, and the end of the first line
+-- the height of the view box, and the end of the first line
 unfoldable pub box_end : ℕ → List ℕ
 box_end height = codes " " ++ decimal height ++ codes "'>\n"
 
--- the box that is seen
+-- the view box
 abbrev pub box_text : Point → List ℕ
 box_text size = box_begin size.x ++ box_end size.y
 
--- the size of a picture, as its edges and as the box that is seen
+-- the size of a picture, as its width and height and as the view box
 unfoldable pub size_text : Point → List ℕ
 size_text size =
     attribute (codes "width") size.x ++ attribute (codes "height") size.y ++ box_text size

@@ -15,7 +15,7 @@ use Rattle.bridge_pictures.specs.Graph.{GraphParts, noted_below}
 use Rattle.bridge_pictures.specs.declared.windows.chart.Counts.{Counts}
 use Rattle.bridge_pictures.specs.declared.windows.trace.Departure.{Departure}
 
--- What is kept of an end: the values of its features that were told last, and the frames that it sent.
+-- What is kept of an end: the values of its features that were written last, and the frames that it sent.
 pub record TraceParts : Type 0 where
   pub rows : List ℕ
   pub sent : List Departure
@@ -42,11 +42,11 @@ frame_noted_if w column (Some frame) = record w { sent = w.sent ++ record { colu
 abbrev pub frame_noted : TraceParts → ℕ → List SentFrame → TraceParts
 frame_noted w column frames = frame_noted_if w column (slice_get frames (length w.sent))
 
--- the values of an end's features are told where they are others than before
+-- the values of an end's features are written if they changed
 unfoldable pub rows_told : GraphParts → TraceParts → Side → List ℕ → GraphParts
 rows_told g w side rows = if bytes_eq rows w.rows then g else noted_below g (rows_note g.columns side rows)
 
--- the values that were told last
+-- the values that were written last
 unfoldable pub rows_kept : TraceParts → List ℕ → TraceParts
 rows_kept w rows = if bytes_eq rows w.rows then w else record w { rows = rows }
 
@@ -58,7 +58,7 @@ end_noted w column side world = frame_noted w column (half_of world.world side).
 abbrev pub rows_in : ControlledWorld Both → Side → List ℕ
 rows_in world side = end_rows (end_of_side world side).state
 
--- What is told of an end below the charts.
+-- What is written about an end below the charts.
 unfoldable pub end_told : GraphParts → TraceParts → Side → ControlledWorld Both → GraphParts
 end_told g w side world = rows_told g (end_noted w g.columns side world) side (rows_in world side)
 
@@ -71,6 +71,6 @@ abbrev pub loss_mark : List ℕ → Departure → List ℕ
 loss_mark processed sent =
     if list_any (λ number. number == sent.number) processed then [] else bar (codes "lost") sent.column 3 6 (codes "never processed")
 
--- the marks of those among an end's frames
+-- the marks of those of an end's frames
 unfoldable pub loss_marks : TraceParts → List ℕ → List ℕ
 loss_marks w processed = flat_map (loss_mark processed) w.sent

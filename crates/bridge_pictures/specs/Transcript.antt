@@ -1,4 +1,4 @@
--- What `ladder` draws of a transcript, those that `run`, `replay` and `listen` write (own).
+-- What `ladder` draws of a transcript that `run`, `replay` or `listen` wrote (own).
 use Rattle.std.specs.Prelude.{ℕ, nat_lt, Bool, false, is_some, if◌then◌else◌, List, [], ◌++◌, length, codes, decimal, Option, Some, None, Result, Ok, Err}
 use Rattle.dccp_listener.specs.declared.peer.Peer.{Peer}
 use Rattle.dccp_packets.specs.Grammar.{Parts, decoded}
@@ -26,7 +26,7 @@ abbrev pub words_by : Result Parts Malformed → List ℕ
 words_by (Ok packet) = words_text packet
 words_by (Err fault) = codes " malformed " ++ malformed_name fault
 
--- what the packet says that these bytes are
+-- what the packet in these bytes says
 abbrev pub packet_words : List ℕ → List ℕ
 packet_words bytes = words_by (decoded bytes)
 
@@ -43,17 +43,17 @@ kind_by (Err fault) = None
 abbrev pub kind_in : List ℕ → Option Kind
 kind_in bytes = kind_by (decoded bytes)
 
--- a side, or the only one
+-- a side, or the only end
 abbrev pub drawn_side : Drawing → Side → Side
 drawn_side d side = if is_one_end d.subject then Client else side
 
--- a frame with these words was sent: an end alone has its arrow straight
+-- a frame with these words was sent: that of a single end has a straight arrow
 unfoldable pub frame_drawn : Drawing → Side → List ℕ → List ℕ → Drawing
 frame_drawn d from bytes words =
     if is_one_end d.subject then gone_straight (row_told d Client words) Client (codes "sent") words
     else frame_sent d from (kind_in bytes) words
 
--- a frame came to an end alone, from a peer that is not seen
+-- a frame came to a single end, from a peer that is not seen
 unfoldable pub came_alone : Drawing → Fate → List ℕ → Drawing
 came_alone d came line = gone_straight (row_told (drawn_of subjects.OneEnd d) Client line) Server (arrow_class came false) line
 
@@ -61,7 +61,7 @@ came_alone d came line = gone_straight (row_told (drawn_of subjects.OneEnd d) Cl
 abbrev pub sent_on : Drawing → Side → ℕ → List ℕ → Drawing
 sent_on d from index frame = if nat_lt 2044 (length frame) then d else frame_drawn d from frame (frame_label from index frame)
 
--- a peer, and what a frame says that goes to it
+-- a peer, and what a frame to it says
 unfoldable pub peer_label : Peer → List ℕ → List ℕ
 peer_label peer bytes = peer_text peer ++ packet_words bytes
 
@@ -86,7 +86,7 @@ drawn_on d line (draws.SentToPeer peer frame) = sent_to_peer d peer frame
 drawn_on d line draws.ListenerTold = listener_told d line
 drawn_on d line (draws.Arrived peer frame) = arrival_drawn_beside d peer (arrival_label frame.bytes)
 
--- what a line comes to: it is drawn, or refused, or says nothing
+-- the result of a line: it is drawn, or refused, or says nothing
 abbrev pub line_drawn : Drawing → List ℕ → Result (Option LadderLine) LineFault → LineVerdict (Unit {0}) Drawing
 line_drawn d line (Err fault) = Refused fault
 line_drawn d line (Ok None) = Accepted None d
@@ -96,15 +96,15 @@ line_drawn d line (Ok (Some drawn)) = Accepted None (drawn_on d line drawn)
 unfoldable pub line_judged : Drawing → ℕ → List ℕ → LineVerdict (Unit {0}) Drawing
 line_judged d number line = line_drawn d line (drawn_by_line line)
 
--- What `ladder` makes of the lines: each is drawn, and at the end stands the picture.
+-- What `ladder` makes of the lines: each is drawn, and the picture comes at the end.
 abbrev pub ladder_job : Job (Unit {0}) Drawing
 ladder_job = record { judged = line_judged; told = λ _. []; ending = picture }
 
--- what the lines of a transcript come to
+-- the result of the lines of a transcript
 abbrev pub ladder_gone : List ℕ → LinesResult (Unit {0}) Drawing
 ladder_gone input = gone_through ladder_job first_drawing input
 
--- What `ladder` writes of a transcript: the picture, or nothing where a line is refused.
+-- What `ladder` writes of a transcript: the picture, or nothing if a line is refused.
 abbrev pub ladder_text : List ℕ → List ℕ
 ladder_text input = text_apart ladder_job (ladder_gone input)
 

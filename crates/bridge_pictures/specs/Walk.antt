@@ -1,5 +1,5 @@
--- A walk over the packets of one flow of a capture: which side sent each, and how its number stands to the others (own;
--- numbers by RFC 4340, section 7).
+-- A walk over the packets of one flow of a capture: which side sent each, and whether its number is later than those before (own; numbers by RFC
+-- 4340, section 7).
 use Rattle.std.specs.Prelude.{ℕ, ◌^◌, ◌==◌, ◌&&◌, nat_le, nat_lt, Bool, true, false, not, if◌then◌else◌, List, [], Option, Some, None}
 use Rattle.bridge_links.specs.Links.{ip_bytes}
 use Rattle.capture_reader.specs.Records.{RecordParts}
@@ -30,17 +30,17 @@ pub record WalkParts : Type 0 where
 abbrev pub first_walk : ℕ → WalkParts
 first_walk flow = record { flow = flow; flows = []; ends = None; client = None; server = None }
 
--- a number so far ahead is a later one
+-- a number this far ahead is a later one
 abbrev pub is_later : ℕ → Bool
 is_later ahead = nat_lt 0 ahead && nat_lt ahead (2 ^ 47)
 
--- a packet of this type comes from a client as far as one can tell
+-- a packet of this type comes from a client, as far as its type shows
 abbrev pub is_of_client : PacketType → Bool
 is_of_client types.Response = false
 is_of_client types.CloseReq = false
 is_of_client _ = true
 
--- the ends, of which the first to send is the client, unless it answers as a server does
+-- the ends: the first to send is the client, unless it answers as a server does
 abbrev pub ends_by : Option FlowEnds → AddressAndPort → PacketType → FlowEnds
 ends_by (Some ends) from kind = ends
 ends_by None from kind = record { first = from; is_client = is_of_client kind }
@@ -54,15 +54,15 @@ alike false b = not b
 abbrev pub side_from : FlowEnds → AddressAndPort → Side
 side_from ends from = if alike (same_end from ends.first) ends.is_client then Client else Server
 
--- a record as it comes after `unwrap`, which finds this IP packet in it
+-- a record as it is after `unwrap`, which finds this IP packet in it
 abbrev pub record_of_ip : RecordParts → List ℕ → RecordParts
 record_of_ip e ip = record e { link = 101; bytes = ip }
 
--- the same by what `unwrap` finds
+-- a record after `unwrap`, from what `unwrap` finds in it
 abbrev pub record_after_link : RecordParts → RecordParts
 record_after_link e = record_of_ip e (ip_bytes e.link e.bytes)
 
--- the number of a packet in full, and how far it is ahead of its sender's latest one; of a first number, 1
+-- the full number of a packet, and how far it is ahead of its sender's latest one; for a first number, 1
 abbrev pub step_of : Option ℕ → Header → ℕ × ℕ
 step_of (Some latest) header = (near latest header.number, distance latest (near latest header.number))
 step_of None header = (value_of header.number, 1)
@@ -77,7 +77,7 @@ abbrev pub with_latest : WalkParts → Side → ℕ → WalkParts
 with_latest w Client number = record w { client = Some number }
 with_latest w Server number = record w { server = Some number }
 
--- the same, if the number is a later one
+-- the walk with this latest number of a side, if the number is a later one
 abbrev pub number_noted : WalkParts → Side → ℕ → ℕ → WalkParts
 number_noted w side number ahead = if nat_le (2 ^ 47) ahead then w else with_latest w side number
 

@@ -18,10 +18,10 @@ use std::marker::Model;
 
 /// A picture of the packets of a flow.
 pub(crate) trait FlowPicture {
-    // What it is after one more packet, and its text.
+    // What the picture is after one more packet, and its text.
     ghost kind: { PictureKind Self };
 
-    /// Draws the next packet of the flow. NoMemory comes where no memory was left, here and below.
+    /// Draws the next packet of the flow. NoMemory comes if no memory was left, here and below.
     fn draw(
         &mut self,
         alloc: Global,
@@ -65,7 +65,7 @@ impl<P: FlowPicture> FlowJob<P> {
         }
     }
 
-    // A packet, which is drawn where it is of the flow.
+    // A packet, which is drawn if it is of the flow.
     #[tactic(auto, unfolding(crate::specs::FlowPictures::packet_walked))]
     fn pass_packet(
         &mut self,

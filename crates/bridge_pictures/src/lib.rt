@@ -1,7 +1,7 @@
-//! Pictures of what the tool tells and of captures (own; SVG 1.1): a ladder of packets, and the windows of both ends.
+//! Pictures of what the tool writes and of captures (own; SVG 1.1): a ladder of packets, and the windows of both ends.
 //!
-//! Each picture is one text, written at the input's end. Memory is taken for what is drawn. Nothing here decides what an
-//! end does: it reads lines and packets, and plays a schedule as `run` does.
+//! Each picture is one text, written at the input's end. Memory is taken for what is drawn. Nothing here decides what
+//! an end does: the crate reads lines and packets, and plays a schedule as `run` does.
 #![tactic(auto)]
 
 mod flow_pictures;

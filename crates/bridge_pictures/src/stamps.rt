@@ -30,7 +30,7 @@ fn put_three(text: &mut Vec<u8>, number: u32) -> Result<(), NoMemory>
     put(text, &[hundreds, tens, ones])
 }
 
-/// Puts a record's number and its time, down to milliseconds. NoMemory comes where no memory was left, here and below.
+/// Puts a record's number and its time, down to milliseconds. NoMemory comes if no memory was left, here and below.
 pub(crate) fn put_stamp(text: &mut Vec<u8>, item: &Record<'_>) -> Result<(), NoMemory>
     ensures { OnOk result (text.new.items ≡ text.old.items ++ spec.stamp (entry_of item.now)) }
 {

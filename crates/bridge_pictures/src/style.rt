@@ -31,7 +31,7 @@ fn put_colours(text: &mut Vec<u8>) -> Result<(), NoMemory>
     put(text, COLOURS)
 }
 
-/// Puts what the colours of lines mean. NoMemory comes where no memory was left, here and below.
+/// Puts what the colours of lines mean. NoMemory comes if no memory was left, here and below.
 #[tactic(auto, unfolding(crate::specs::Style::key))]
 pub(crate) fn put_key(text: &mut Vec<u8>) -> Result<(), NoMemory>
     ensures { OnOk result (text.new.items ≡ text.old.items ++ spec.key) }

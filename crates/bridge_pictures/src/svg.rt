@@ -5,19 +5,19 @@ ghost use Rattle.bridge_pictures.specs.Svg as spec;
 use seq_circle::NoMemory;
 use tool_text::{put, put_counted};
 
-/// A place of a picture: how far it lies from the left edge and from the top.
+/// A place of a picture: how far it is from the left edge and from the top.
 #[derive(Clone, Copy)]
 pub(crate) struct Point {
     pub(crate) x: u64,
     pub(crate) y: u64,
 }
 
-// A text of more bytes is cut to the front, and marked; its tooltip has all.
+// A text of more bytes is cut to its first bytes, and marked; its tooltip has all.
 const LABEL: usize = 60;
 
 const FRONT: usize = 58;
 
-// A byte of text, or what XML writes for one that it keeps for itself.
+// A byte of text, or what XML writes for one that it reserves.
 fn put_escaped_byte(text: &mut Vec<u8>, byte: u8) -> Result<(), NoMemory>
     ensures { OnOk result (text.new.items ≡ text.old.items ++ spec.escaped_byte byte) }
 {
@@ -70,7 +70,7 @@ pub(crate) fn put_begin(text: &mut Vec<u8>, name: &[u8], class: &[u8]) -> Result
     put(text, b"'")
 }
 
-// What of a text a picture has.
+// The part of a text that a picture has.
 #[tactic(auto, unfolding(crate::specs::Svg::label_front))]
 fn cut(words: &[u8]) -> &[u8]
     ensures { result.now ≡ spec.label_front words.now }
@@ -92,7 +92,7 @@ fn put_cut_mark(text: &mut Vec<u8>, words: &[u8]) -> Result<(), NoMemory>
     Ok(())
 }
 
-/// Puts a text, cut and marked where it is longer than a label.
+/// Puts a text, cut and marked if it is longer than a label.
 #[tactic(auto, unfolding(crate::specs::Svg::cut_text))]
 pub(crate) fn put_cut(text: &mut Vec<u8>, words: &[u8]) -> Result<(), NoMemory>
     ensures { OnOk result (text.new.items ≡ text.old.items ++ spec.cut_text words.now) }
@@ -111,7 +111,7 @@ fn put_text_begin(text: &mut Vec<u8>, class: &[u8], at: Point) -> Result<(), NoM
     put(text, b">")
 }
 
-// Puts what of a text is between tags.
+// Puts the part of a text that is between tags.
 #[tactic(auto, unfolding(crate::specs::Svg::text_inside))]
 fn put_shown(text: &mut Vec<u8>, words: &[u8]) -> Result<(), NoMemory>
     ensures { OnOk result (text.new.items ≡ text.old.items ++ spec.text_inside words.now) }
@@ -161,7 +161,7 @@ fn put_line_begin(text: &mut Vec<u8>, class: &[u8], from: Point, to: Point) -> R
     put(text, b">")
 }
 
-/// Puts a line between two places, with a tooltip. What its class looks like, the style says.
+/// Puts a line between two places, with a tooltip. The style says what its class looks like.
 pub(crate) fn put_line(
     text: &mut Vec<u8>,
     class: &[u8],
@@ -191,7 +191,7 @@ fn put_box_end(text: &mut Vec<u8>, height: u64) -> Result<(), NoMemory>
     put(text, b"'>\n")
 }
 
-// Puts the box that is seen.
+// Puts the view box.
 fn put_box(text: &mut Vec<u8>, size: Point) -> Result<(), NoMemory>
     ensures { OnOk result (text.new.items ≡ text.old.items ++ spec.box_text size) }
 {
@@ -199,7 +199,7 @@ fn put_box(text: &mut Vec<u8>, size: Point) -> Result<(), NoMemory>
     put_box_end(text, size.y)
 }
 
-// Puts the size of a picture, as its edges and as the box that is seen.
+// Puts the size of a picture, as its width and height and as the view box.
 #[tactic(auto, unfolding(crate::specs::Svg::size_text))]
 fn put_size(text: &mut Vec<u8>, size: Point) -> Result<(), NoMemory>
     ensures { OnOk result (text.new.items ≡ text.old.items ++ spec.size_text size) }

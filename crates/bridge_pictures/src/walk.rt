@@ -1,4 +1,5 @@
-//! A walk over the packets of one flow of a capture: which side sent each, and how its number stands to the others.
+//! A walk over the packets of one flow of a capture: which side sent each, and whether its number is later than those
+//! before.
 ghost use Rattle.std.specs.Prelude.{◌≡◌, ◌++◌, IfOk, OnOk};
 ghost use Rattle.capture_reader.specs.Records.{entry_of};
 ghost use Rattle.packet_show.specs.Flows.{flow_of, from_end};
@@ -14,7 +15,7 @@ use std::alloc::Global;
 use std::marker::Model;
 use world_events::Side;
 
-// Numbers ahead by less than this are later ones (RFC 4340, section 7.1).
+// Numbers that are ahead by less than this are later ones (RFC 4340, section 7.1).
 const HALF: u64 = 1 << 47;
 
 /// The ends of a flow of a capture (own): the one that was seen to send first, and whether it is the client.
@@ -24,7 +25,7 @@ pub struct FlowEnds {
     pub is_client: bool,
 }
 
-/// A packet of the flow: the side that sent it, and how far its number is ahead of that side's latest one; of a first
+/// A packet of the flow: the side that sent it, and how far its number is ahead of that side's latest one; for a first
 /// number, 1.
 #[derive(Clone, Copy)]
 pub(crate) struct FlowStep {
@@ -58,8 +59,8 @@ pub(crate) fn is_later(ahead: u64) -> bool
     0 < ahead && ahead < HALF
 }
 
-/// The ends of a flow at a packet of this type that came from there (own): whose packet comes first is the client,
-/// unless that is a Response or a CloseReq, which only a server sends (RFC 4340, sections 8.1.3 and 8.3).
+/// The ends of a flow at a packet of this type that came from there (own): the sender of the first packet is the
+/// client, unless the packet is a Response or a CloseReq, which only a server sends (RFC 4340, sections 8.1.3 and 8.3).
 pub fn ends_by(ends: Option<FlowEnds>, from: FlowEnd, kind: PacketType) -> FlowEnds
     ensures { result ≡ spec.ends_by ends from kind }
 {
@@ -83,7 +84,7 @@ pub fn side_from(ends: &FlowEnds, from: FlowEnd) -> Side
     Side::Server
 }
 
-/// A record as it comes after `unwrap`, which finds this IP packet in it.
+/// A record as it is after `unwrap`, which finds this IP packet in it.
 pub fn record_of_ip<'a>(item: &Record<'a>, ip: &'a [u8]) -> Record<'a>
     ensures { entry_of result ≡ spec.record_of_ip (entry_of item.now) ip.now }
 {
@@ -108,7 +109,7 @@ impl Walk {
         }
     }
 
-    // The number of a packet in full, and how far it is ahead of its sender's latest one; of a first number, 1.
+    // The full number of a packet, and how far it is ahead of its sender's latest one; for a first number, 1.
     fn step_of(&self, side: Side, header: &Header) -> (Seq48, u64)
         ensures { result ≡ spec.step_of (spec.latest_of self.now side) header.now }
     {
@@ -160,8 +161,8 @@ impl Walk {
         self.go_by_side(side_from(&ends, from), header)
     }
 
-    /// A packet, whose flow is numbered as `show` numbers it: who sent it where it is of the flow, or None where it is
-    /// of another. NoMemory comes where no memory was left.
+    /// A packet, whose flow is numbered as `show` numbers it: who sent it, if it is of the flow, or None if it is of
+    /// another. NoMemory means that no memory was left.
     #[tactic(auto, unfolding(crate::specs::Walk::flow_walked, crate::specs::Walk::step_in_flow))]
     pub(crate) fn go(
         &mut self,

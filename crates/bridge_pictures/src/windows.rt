@@ -1,5 +1,5 @@
 //! The windows of both ends: a column for each event or packet, with the window, what is in flight, where the window
-//! fell, and what was told of features (own).
+//! fell, and the values of features (own).
 
 mod bars;
 mod chart;

@@ -19,7 +19,7 @@ use seq_circle::NoMemory;
 use std::alloc::Global;
 use world_events::Side;
 
-// How the arrow of a packet looks: one that repeats the latest number, or comes after a later one, looks like that.
+// How the arrow of a packet looks: one with the latest number, or with an earlier one, looks like a repeat.
 fn seen_class(ahead: u64) -> &'static [u8]
     ensures { result.now ≡ spec.seen_class ahead }
 {
@@ -33,7 +33,7 @@ fn seen_class(ahead: u64) -> &'static [u8]
 }
 
 impl Ladder {
-    // A packet was seen on its way: its sender and its receiver are in the phases that follow.
+    // A packet was seen on its way: its sender and its receiver change their phases.
     #[tactic(auto, unfolding(crate::specs::Flow::packet_drawn))]
     fn draw_packet(
         &mut self,
@@ -76,15 +76,16 @@ impl FlowPicture for Ladder {
     }
 }
 
-/// Draws a flow of a capture as a ladder (own): of each packet of the flow of this number, as `show` numbers flows
-/// after `unwrap`, a row with its arrow. The packet is written beside its sender's line: the record's number, its
-/// time, and what `show` has of it, cut to 60 bytes, with all of it as a tooltip. The lines have the colours of the
-/// phases in which the ends are where each packet comes. A packet with its sender's latest number, or with one that is
-/// not later, looks like a repeat. Whose packet comes first is the client, unless that is a Response or a CloseReq.
+/// Draws a flow of a capture as a ladder (own). Each packet of the flow of this number has a row with its arrow; flows
+/// are numbered as `show` numbers them after `unwrap`. The packet is written beside its sender's line: the record's
+/// number, its time, and what `show` has of it, cut to 60 bytes, with all of it as a tooltip. The lines have the
+/// colours of the ends' phases when each packet comes. A packet with its sender's latest number, or with one that is
+/// not later, looks like a repeat. The sender of the first packet is the client, unless that packet is a Response or a
+/// CloseReq.
 ///
-/// The capture is one that `unwrap` takes. Input comes where it has a fault; what came before is drawn. With status 0
-/// or 1 the output is that of the whole input, with another a front of it. Read comes where the source failed, Write
-/// where the sink did, and Memory where no memory was left.
+/// The capture is one that `unwrap` takes. Input means that it has a fault; what came before is drawn. With status 0 or
+/// 1 the output is that of the whole input, with another a prefix of it. Read means that the source failed, Write that
+/// the sink did, and Memory that no memory was left.
 pub fn ladder_of_flow<S: Source, K: Sink>(
     alloc: Global,
     flow: u64,

@@ -1,4 +1,4 @@
-//! What a line of a transcript draws: of those that `run`, `replay` and `listen` write.
+//! What a line draws of a transcript that `run`, `replay` or `listen` wrote.
 ghost use Rattle.std.specs.Prelude.{◌≡◌};
 ghost use Rattle.tool_text.specs.Left.{left_of};
 ghost use Rattle.bridge_pictures.specs.LadderLines as spec;
@@ -44,7 +44,7 @@ pub(crate) enum LadderLine<'a> {
         peer: Peer,
         frame: Digits<'a>,
     },
-    /// A listener was asked for something, or tells of its flows.
+    /// A listener was asked for something, or lists its flows.
     ListenerTold,
     /// What came, from this peer or from the other end, is this frame.
     Arrived(Option<Peer>, FrameLine<'a>),
@@ -76,7 +76,7 @@ fn side_of(word: &[u8]) -> Option<Side>
     None
 }
 
-// What became of a frame, by the first word of what was answered.
+// What became of a frame, from the first word of the answer.
 fn came_of(word: &[u8]) -> Option<Fate>
     ensures { result ≡ spec.came_of word.now }
 {
@@ -143,7 +143,7 @@ fn abort_asked(answer: &[u8]) -> Demand
     Demand::Other
 }
 
-// What a timer that ran out asks for, if it had something to do.
+// What the end is asked for by a timer that ran out, if the timer had something to do.
 fn timer_asked(timer: &[u8], answer: &[u8]) -> Demand
     ensures { result ≡ spec.timer_asked timer.now answer.now }
 {
@@ -159,7 +159,7 @@ fn timer_asked(timer: &[u8], answer: &[u8]) -> Demand
     Demand::Other
 }
 
-// What became of a packet of a peer, by the first word of what was answered.
+// What became of a packet of a peer, from the first word of the answer.
 fn peer_came_of(answer: &[u8]) -> Option<Fate>
     ensures { result ≡ spec.peer_came_of answer.now }
 {
@@ -180,7 +180,7 @@ fn peer_event<'a>(name: &[u8], answer: &[u8]) -> Option<LadderLine<'a>>
     }
 }
 
-// An event of two ends, or of a listener's peer, by its words.
+// An event of two ends or of a listener's peer, from its words.
 fn event<'a>(second: &[u8], third: &[u8], fourth: &[u8], fifth: &[u8]) -> Option<LadderLine<'a>>
     ensures { result ≡ spec.event second.now third.now fourth.now fifth.now }
 {
@@ -202,7 +202,7 @@ fn event<'a>(second: &[u8], third: &[u8], fourth: &[u8], fifth: &[u8]) -> Option
     peer_event(second, third)
 }
 
-// What an end alone answered.
+// What a single end answered.
 fn alone<'a>(answer: &[u8]) -> LadderLine<'a>
     ensures { result ≡ spec.answered_alone answer.now }
 {
@@ -218,7 +218,7 @@ fn ended<'a>(side: &[u8]) -> Option<LadderLine<'a>>
     Some(LadderLine::Ended(side_of(side)?))
 }
 
-// What a line tells that is no frame's, by its first five words.
+// What a line without a frame means, from its first five words.
 #[tactic(auto, unfolding(crate::specs::LadderLines::told_drawn))]
 fn told<'a>(
     first: &[u8],
@@ -284,7 +284,7 @@ fn sent<'a>(words: &mut Words<'a>) -> Result<LadderLine<'a>, LineFault>
     or_unknown(name.column, sent_frame(name.text, frame))
 }
 
-// What a line tells that is no frame's, whose first word was read.
+// What a line without a frame means, whose first word was read.
 #[tactic(auto, unfolding(crate::specs::LadderLines::by_first_word))]
 fn by_first_word<'a>(
     column: u32,
@@ -342,9 +342,10 @@ impl<'a> WordRow<'a> for LadderWords {
     }
 }
 
-/// What a line of a transcript draws, without its newline, or None where it is empty or a comment; or the first of its
-/// faults: NotText, then BadHex or Missing of a frame's bytes, and then UnknownWord, at the first word, or at the name
-/// of a frame or of a peer. The line of a refusal is unknown, too. After `came` they are those of a replay's line.
+/// What a line of a transcript draws, without its newline, or None if it is empty or a comment. Or the first of its
+/// faults: NotText, then BadHex or Missing for a frame's bytes, and then UnknownWord, for the first word or for the
+/// name of a frame or a peer. The line of a refusal is an UnknownWord, too. After `came` they are those of a replay's
+/// line.
 pub(crate) fn drawn_by_line(line: &[u8]) -> Result<Option<LadderLine<'_>>, LineFault>
     ensures { result ≡ spec.drawn_by_line line.now }
 {

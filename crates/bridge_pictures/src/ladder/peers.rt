@@ -20,20 +20,20 @@ const OWN_ADDRESS: [u8; 4] = [10, 0, 0, 2];
 
 const OWN_PORT: u16 = 5001;
 
-// The line of the first peer lies one step to the right of this, and each so far from the one before.
+// The line of the first peer lies one step to the right of this, and each this far from the one before.
 const ORIGIN: u64 = 700;
 
 const STEP: u64 = 160;
 
-// A name is so far to the left of its line, and so far above the row in which that begins.
+// A name is this far to the left of its line, and this far above the row in which that begins.
 const RISE: u64 = 5;
 
-// A picture without peers has this width, and this edge below its last row.
+// A picture without peers has this width, and this much room below its last row.
 const WIDTH: u64 = 1150;
 
 const BOTTOM: u64 = 40;
 
-// A text lies so far from its line, and its foot so far below the row's.
+// A text lies this far from its line, and its foot this far below the row's.
 const GAP: u64 = 10;
 
 const FOOT: u64 = 4;
@@ -49,7 +49,7 @@ pub(crate) struct Lane {
 #[derive(Drop)]
 pub(crate) struct Peers {
     alloc: Global,
-    // Each is numbered as the flow to the listener.
+    // Each peer has the number of its flow to the listener.
     flows: Flows,
     lanes: Vec<Lane>,
 }
@@ -62,7 +62,7 @@ impl Model for Peers {
     ghost view = { λ p. record { flows = p.flows; lanes = p.lanes.items } };
 }
 
-// So many, or the most that a picture has room for.
+// This many pixels, or the most that a picture has room for.
 fn at_most(count: u64) -> u64
     ensures value { result ≡ min count 4294967295 }
     ensures low { result ≤ 2 ^ 32 }
@@ -111,7 +111,7 @@ impl Peers {
         }
     }
 
-    // The number of a peer, which is seen now.
+    // The number of a peer that is seen now.
     fn see(&mut self, peer: Peer) -> Result<u64, NoMemory>
         ensures number { IfOk result (λ number. number ≡ spec.peer_number self.old peer) }
         ensures next { OnOk result (self.new ≡ spec.peer_seen self.old peer) }
@@ -143,7 +143,7 @@ impl Peers {
     }
 
     /// A peer is seen in this row: how far its line lies from the left edge. A new peer's line begins here, under its
-    /// name. NoMemory comes where no memory was left, here and below.
+    /// name. NoMemory comes if no memory was left, here and below.
     pub(crate) fn enter(
         &mut self,
         text: &mut Vec<u8>,
@@ -176,7 +176,7 @@ impl Peers {
         Ok(())
     }
 
-    /// The size of a listener's ladder with so many rows.
+    /// The size of a listener's ladder with this many rows.
     pub(crate) fn size(&self, rows: u32) -> Point
         ensures { result ≡ spec.listener_size self.now rows }
     {
@@ -187,7 +187,7 @@ impl Peers {
     }
 }
 
-// Puts the line of a peer down to this row, where no phase is told.
+// Puts the line of a peer down to this row, if no phase is known.
 #[tactic(auto, unfolding(crate::specs::Peers::lane_drawn))]
 fn put_lane(text: &mut Vec<u8>, row: u32, lane: &Lane) -> Result<(), NoMemory>
     ensures { OnOk result (text.new.items ≡ text.old.items ++ spec.lane_drawn row lane.now) }
@@ -221,7 +221,7 @@ pub(crate) fn put_arrow_from(
     )
 }
 
-/// Puts the arrow of a packet that goes there.
+/// Puts the arrow of a packet that goes to a peer whose line lies there.
 #[tactic(auto, unfolding(crate::specs::Peers::arrow_to))]
 pub(crate) fn put_arrow_to(
     text: &mut Vec<u8>,

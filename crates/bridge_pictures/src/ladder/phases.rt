@@ -1,11 +1,11 @@
-//! The phases of an end, by what it is seen to do (RFC 4340, section 8.5; the tables of dccp_states).
+//! The phases of an end, from what it is seen to do (RFC 4340, section 8.5; the tables of dccp_states).
 ghost use Rattle.std.specs.Prelude.{◌≡◌};
 ghost use Rattle.bridge_pictures.specs.Phases as spec;
 
 use dccp_packets::{Kind, PacketType};
 use dccp_states::{Phase, after};
 
-/// What became of a frame that came, as far as a phase goes by it.
+/// What became of a frame that came, as far as a phase depends on it.
 #[derive(Clone, Copy)]
 pub(crate) enum Fate {
     /// It was taken.
@@ -20,10 +20,10 @@ pub(crate) enum Fate {
     SentReset,
 }
 
-/// What an end was asked for, as far as its phase goes by it.
+/// What an end was asked for, as far as its phase depends on it.
 #[derive(Clone, Copy)]
 pub(crate) enum Demand {
-    /// To give up, which it did.
+    /// To give up, and it did.
     GivenUp,
     /// Its retransmission timer ran out.
     TimedOut,
@@ -48,7 +48,7 @@ pub(crate) fn phase_name(phase: Phase) -> &'static [u8]
     }
 }
 
-// The phase of an end that sent a Reset of this code: a connection ends by it, except by Packet Error in REQUEST.
+// The phase of an end that sent a Reset of this code: the connection ends, except by Packet Error in REQUEST.
 fn phase_reset(phase: Phase, code: u8) -> Phase
     ensures { result ≡ spec.phase_reset phase code }
 {

@@ -1,4 +1,4 @@
-//! Where the parts of a ladder stand, and what they look like.
+//! Where the parts of a ladder are, and what they look like.
 ghost use Rattle.std.specs.Prelude.{◌≡◌, ◌<◌, ◌≤◌, ◌^◌, ◌++◌, OnOk};
 ghost use Rattle.bridge_pictures.specs.Places as spec;
 
@@ -8,12 +8,12 @@ use dccp_states::Phase;
 use seq_circle::NoMemory;
 use world_events::Side;
 
-// The first row lies so far from the top, and each so far below the one before.
+// The first row lies this far from the top, and each this far below the one before.
 const TOP: u64 = 60;
 
 const ROW: u64 = 18;
 
-/// The left line, which is the client's, or that of an end alone.
+/// The left line, which is the client's, or that of a single end.
 pub(crate) const LEFT: u64 = 460;
 
 /// The right line.
@@ -27,7 +27,7 @@ const BOTTOM: u64 = 40;
 
 const NAME: u64 = 48;
 
-// A text lies so far from its line, and its foot so far below the row's.
+// A text lies this far from its line, and its foot this far below the row's.
 const GAP: u64 = 10;
 
 const FOOT: u64 = 4;
@@ -96,7 +96,7 @@ fn came_class(came: Fate) -> &'static [u8]
     }
 }
 
-/// How the arrow of a frame looks that came: one that had come before is a repeat.
+/// How the arrow of a frame looks that came: a frame that had come before is a repeat.
 pub(crate) fn arrow_class(came: Fate, again: bool) -> &'static [u8]
     ensures { result.now ≡ spec.arrow_class came again }
 {
@@ -160,7 +160,7 @@ pub(crate) fn put_segment(
     )
 }
 
-/// Puts a side's line down to this row, where no phase is told.
+/// Puts a side's line down to this row, if no phase is known.
 #[tactic(auto, unfolding(crate::specs::Places::plain))]
 pub(crate) fn put_plain(text: &mut Vec<u8>, side: Side, row: u32) -> Result<(), NoMemory>
     ensures { OnOk result (text.new.items ≡ text.old.items ++ spec.plain side row) }
@@ -186,7 +186,7 @@ pub(crate) fn put_lost(text: &mut Vec<u8>, side: Side, row: u32) -> Result<(), N
     put_line(text, b"lost", place_of(side, row), end, b"never came")
 }
 
-/// The size of a ladder with so many rows.
+/// The size of a ladder with this many rows.
 pub(crate) fn size_of(rows: u32) -> Point
     ensures { result ≡ spec.ladder_size rows }
 {

@@ -27,7 +27,7 @@ pub(crate) struct Flight {
     pub(crate) came: bool,
 }
 
-/// The line of one end: its phase, since which row it is drawn no more, and the frames that it sent.
+/// The line of one end: its phase, the row up to which it is drawn, and the frames that it sent.
 #[derive(Drop)]
 pub(crate) struct Lifeline {
     phase: Phase,
@@ -133,9 +133,9 @@ fn put_loss(text: &mut Vec<u8>, side: Side, flight: &Flight) -> Result<(), NoMem
 pub(crate) enum Subject {
     /// Both ends of a connection.
     BothEnds,
-    /// An end alone: its peer is not seen, and its phases are not told.
+    /// A single end: its peer is not seen, and its phases are not known.
     OneEnd,
-    /// A listener and its peers: phases are not told.
+    /// A listener and its peers: phases are not known.
     Listener,
 }
 
@@ -200,7 +200,7 @@ impl Ladder {
         }
     }
 
-    /// Whether the left line is an end alone.
+    /// Whether the left line is a single end.
     pub(crate) fn is_one_end(&self) -> bool
         ensures { result ≡ spec.is_one_end self.now.subject }
     {
@@ -210,14 +210,14 @@ impl Ladder {
         }
     }
 
-    /// The lines are of these.
+    /// The lines are of these ends.
     pub(crate) fn set_subject(&mut self, subject: Subject)
         ensures { self.new ≡ spec.drawn_of subject self.old }
     {
         self.subject = subject;
     }
 
-    /// Begins a row, with this text beside a side's line. NoMemory comes where no memory was left, here and below.
+    /// Begins a row, with this text beside a side's line. NoMemory comes if no memory was left, here and below.
     #[tactic(auto, unfolding(crate::specs::Scene::row_told))]
     pub(crate) fn tell(&mut self, side: Side, words: &[u8]) -> Result<(), NoMemory>
         ensures { OnOk result (self.new ≡ spec.row_told self.old side words.now) }
@@ -286,7 +286,7 @@ impl Ladder {
         }
     }
 
-    /// The frame of this side and index came, and that became of it.
+    /// The frame of this side and index came, and this became of it.
     #[tactic(auto, unfolding(crate::specs::Scene::delivered))]
     pub(crate) fn deliver(
         &mut self,
@@ -334,7 +334,7 @@ impl Ladder {
         }
     }
 
-    /// A frame goes between the lines in one row, as one that is seen on the wire does, or at one end alone.
+    /// A frame goes between the lines in one row, as one that is seen on the wire does, or one of a single end.
     #[tactic(auto, unfolding(crate::specs::Scene::gone_straight))]
     pub(crate) fn pass(&mut self, from: Side, class: &[u8], words: &[u8]) -> Result<(), NoMemory>
         ensures { OnOk result (self.new ≡ spec.gone_straight self.old from class.now words.now) }
@@ -351,7 +351,7 @@ impl Ladder {
         self.peers.enter(&mut self.body, peer, self.rows)
     }
 
-    /// A listener was asked for something, or tells of its flows.
+    /// A listener was asked for something, or lists its flows.
     #[tactic(auto, unfolding(crate::specs::Scene::listener_told))]
     pub(crate) fn tell_of_listener(&mut self, words: &[u8]) -> Result<(), NoMemory>
         ensures { OnOk result (self.new ≡ spec.listener_told self.old words.now) }
@@ -360,7 +360,7 @@ impl Ladder {
         self.tell(Side::Client, words)
     }
 
-    /// A packet of a peer came to a listener, and looks so by what became of it.
+    /// A packet of a peer came to a listener. Its look shows what became of it.
     #[tactic(auto, unfolding(crate::specs::Scene::peer_heard))]
     pub(crate) fn hear(&mut self, peer: Peer, class: &[u8], words: &[u8]) -> Result<(), NoMemory>
         ensures { OnOk result (self.new ≡ spec.peer_heard self.old peer class.now words.now) }
@@ -380,7 +380,7 @@ impl Ladder {
         put_arrow_to(&mut self.body, x, self.rows, words)
     }
 
-    /// Puts what a packet says that came in the row that was begun last: from a peer, or from the other end.
+    /// Puts what a packet says that came in the latest row: from a peer, or from the other end.
     #[tactic(auto, unfolding(crate::specs::Scene::arrival_drawn_beside))]
     pub(crate) fn tell_arrival(&mut self, peer: Option<Peer>, words: &[u8]) -> Result<(), NoMemory>
         ensures { OnOk result (self.new ≡ spec.arrival_drawn_beside self.old peer words.now) }
@@ -405,7 +405,7 @@ impl Ladder {
         self.server.put_losses(text, Side::Server)
     }
 
-    // Puts the parts that are drawn at last.
+    // Puts the parts that are drawn at the end.
     #[tactic(auto, unfolding(crate::specs::Scene::last_parts))]
     fn put_rest(&self, text: &mut Vec<u8>) -> Result<(), NoMemory>
         ensures { OnOk result (text.new.items ≡ text.old.items ++ spec.last_parts self.now) }

@@ -45,7 +45,7 @@ fn put_frame_words(text: &mut Vec<u8>, from: Side, index: u64, bytes: &[u8]) -> 
     put_packet_words(text, bytes)
 }
 
-// Puts a peer, and what a frame says that goes to it.
+// Puts a peer, and what a frame to it says.
 #[tactic(auto, unfolding(crate::specs::Transcript::peer_label))]
 fn put_peer_words(text: &mut Vec<u8>, peer: Peer, bytes: &[u8]) -> Result<(), NoMemory>
     ensures { OnOk result (text.new.items ≡ text.old.items ++ spec.peer_label peer bytes.now) }
@@ -74,7 +74,7 @@ fn kind_of(bytes: &[u8]) -> Option<Kind>
 }
 
 impl Ladder {
-    // A side, or the only one.
+    // A side, or the only end.
     fn seen(&self, side: Side) -> Side
         ensures { result ≡ spec.drawn_side self.now side }
     {
@@ -146,7 +146,7 @@ impl Ladder {
         self.tell_arrival(peer, &words)
     }
 
-    // A frame came to an end alone.
+    // A frame came to a single end.
     #[tactic(auto, unfolding(crate::specs::Transcript::came_alone))]
     fn draw_alone(&mut self, came: Fate, line: &[u8]) -> Result<(), NoMemory>
         ensures { OnOk result (self.new ≡ spec.came_alone self.old came line.now) }
@@ -213,15 +213,15 @@ impl LineJob for Ladder {
 }
 
 /// Draws a transcript as a ladder (own): it reads the lines that `run`, `replay` or `listen` wrote, and writes a
-/// picture, one SVG file. Each line is a row. What `run` tells is drawn between two lines, whose colours are the phases
-/// of the ends: a frame goes from the row in which it was sent to each row in which it came, and one that never came
-/// ends half way. Of `replay` the left line is the end, whose phases are not told, and frames go straight. Of `listen`
-/// it is the listener, and each peer has a line of its own from the row in which it was first seen. Each packet is
+/// picture, one SVG file. Each line is a row. What `run` writes is drawn between two lines, whose colours are the
+/// phases of the ends: a frame goes from the row in which it was sent to each row in which it came, and one that never
+/// came ends half way. For `replay` the left line is the end, whose phases are not known, and frames go straight. For
+/// `listen` it is the listener, and each peer has its line, from the row in which it was first seen. Each packet is
 /// written beside its sender's line, as `show` has it, cut to 60 bytes, with all of it as a tooltip.
 ///
-/// Where a line is refused, nothing is written, and its refusal is answered. With status 0 or 1 the output is that of
-/// the whole input, with another a front of it. Read comes where the source failed, Write where the sink did, and
-/// Memory where no memory was left.
+/// If a line is refused, nothing is written, and its refusal is returned. With status 0 or 1 the output is that of the
+/// whole input, with another a prefix of it. Read means that the source failed, Write that the sink did, and Memory
+/// that no memory was left.
 pub fn ladder_of_transcript<S: Source, K: Sink>(
     alloc: Global,
     input: &mut S,

@@ -6,14 +6,14 @@ use crate::svg::{put_attribute, put_begin, put_title};
 use seq_circle::NoMemory;
 use tool_text::{put, put_counted};
 
-// A packet has this height, and a column this width, a gap of one included.
+// A packet has this height, and a column this width, including a gap of one.
 const PACKET: u64 = 8;
 
 const COLUMN: u64 = 6;
 
 const BAR: u64 = 5;
 
-/// The columns begin so far from the left edge.
+/// The columns begin this far from the left edge.
 pub(crate) const EDGE: u64 = 40;
 
 /// How far a column lies from the left edge.
@@ -24,7 +24,7 @@ pub(crate) fn column_at(column: u32) -> u64
     EDGE + COLUMN * u64::from(column)
 }
 
-/// How high so many packets are.
+/// How high this many packets are.
 pub(crate) fn packets_high(packets: u32) -> u64
     ensures value { result ≡ spec.packets_high packets }
     ensures low { result ≤ 2 ^ 36 }
@@ -48,7 +48,7 @@ fn put_span(text: &mut Vec<u8>, start: u64, height: u64) -> Result<(), NoMemory>
     put(text, b">")
 }
 
-/// Puts a bar in a column, which begins so far from its group's line and has this height, with a tooltip.
+/// Puts a bar in a column, which begins this far from its group's line and has this height, with a tooltip.
 #[tactic(auto, unfolding(crate::specs::Bars::bar))]
 pub(crate) fn put_bar(
     text: &mut Vec<u8>,
@@ -66,7 +66,7 @@ pub(crate) fn put_bar(
     put(text, b"</rect>\n")
 }
 
-/// Puts the beginning of a group whose line lies so far below the top, and which grows upwards.
+/// Puts the beginning of a group whose line lies this far below the top, and which grows upwards.
 #[tactic(auto, unfolding(crate::specs::Bars::upward))]
 pub(crate) fn put_upward(text: &mut Vec<u8>, bottom: u64) -> Result<(), NoMemory>
     ensures { OnOk result (text.new.items ≡ text.old.items ++ spec.upward bottom) }
@@ -75,7 +75,7 @@ pub(crate) fn put_upward(text: &mut Vec<u8>, bottom: u64) -> Result<(), NoMemory
     put(text, b") scale(1,-1)'>\n")
 }
 
-/// Puts the beginning of a group whose line lies so far below the top.
+/// Puts the beginning of a group whose line lies this far below the top.
 #[tactic(auto, unfolding(crate::specs::Bars::downward))]
 pub(crate) fn put_downward(text: &mut Vec<u8>, top: u64) -> Result<(), NoMemory>
     ensures { OnOk result (text.new.items ≡ text.old.items ++ spec.downward top) }

@@ -9,7 +9,7 @@ use std::alloc::Global;
 use std::marker::Model;
 use tool_text::{put, put_counted};
 
-// A chart has so much room above its tallest bar.
+// A chart has this much room above its tallest bar.
 const ROOM: u64 = 14;
 
 /// What an end's congestion control counts, in packets of data.
@@ -22,7 +22,7 @@ pub(crate) struct Counts {
 /// The chart of one end while it is drawn.
 #[derive(Drop)]
 pub(crate) struct Chart {
-    // The window that was drawn last, and the most packets that were.
+    // The window that was drawn last, and the most packets that were drawn.
     shown: u32,
     tallest: u32,
     body: Vec<u8>,
@@ -63,7 +63,7 @@ fn put_panel_words(text: &mut Vec<u8>, name: &[u8], tallest: u32) -> Result<(), 
     put_tallest(text, tallest)
 }
 
-// Puts the line on which the bars stand.
+// Puts the line below the bars.
 #[tactic(auto, unfolding(crate::specs::Chart::base))]
 fn put_base(text: &mut Vec<u8>, bottom: u64, right: u64) -> Result<(), NoMemory>
     ensures { OnOk result (text.new.items ≡ text.old.items ++ spec.base bottom right) }
@@ -103,7 +103,7 @@ impl Chart {
         put_bar(&mut self.body, b"window", column, window, 2, words)
     }
 
-    /// Draws a column: the window, what is in flight, and whether the window fell. NoMemory comes where no memory was
+    /// Draws a column: the window, what is in flight, and whether the window fell. NoMemory comes if no memory was
     /// left, here and below.
     #[tactic(auto, unfolding(crate::specs::Chart::column_drawn))]
     pub(crate) fn draw(
@@ -160,7 +160,7 @@ impl Chart {
         put_words(text, b"panel", Point { x: EDGE, y: top }, &words)
     }
 
-    /// Puts the chart between these heights, up to so far from the left edge, with its name and its marks.
+    /// Puts the chart between these heights and up to this distance from the left edge, with its name and its marks.
     #[tactic(auto, unfolding(crate::specs::Chart::chart))]
     pub(crate) fn put(
         &self,
@@ -178,7 +178,7 @@ impl Chart {
     }
 }
 
-/// Where a chart stands: between these heights, and up to so far from the left edge.
+/// Where a chart is: between these heights, and up to this distance from the left edge.
 #[derive(Clone, Copy)]
 pub(crate) struct Span {
     pub(crate) top: u64,

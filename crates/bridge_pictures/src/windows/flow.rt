@@ -49,7 +49,7 @@ impl Model for FlowWindows {
     ghost view = { λ f. record { client = f.client; server = f.server; graph = f.graph } };
 }
 
-// Puts an option that confirms a feature's value, and nothing for another.
+// Puts an option that confirms a feature's value, and nothing for any other option.
 fn put_confirm(text: &mut Vec<u8>, item: &Result<Opt<'_>, OptFault>) -> Result<(), NoMemory>
     ensures { OnOk result (text.new.items ≡ text.old.items ++ spec.confirm_words (item_of item.now)) }
 {
@@ -105,7 +105,7 @@ impl FlowWindows {
         })
     }
 
-    // Tells both senders of a packet that this side sent.
+    // Notes at both senders a packet that this side sent.
     #[tactic(auto, unfolding(crate::specs::FlowWindows::senders_told))]
     fn tell_senders(&mut self, from: Side, packet: &Packet<'_>)
         requires { length packet.now.options.now ≤ 1008 }
@@ -164,7 +164,7 @@ impl FlowPicture for FlowWindows {
 
     ghost kind = { windows_kind };
 
-    // Only a packet with a later number is news to the senders.
+    // The senders note only a packet with a later number.
     #[tactic(auto, unfolding(crate::specs::FlowWindows::step_charted))]
     fn draw(
         &mut self,
@@ -185,15 +185,15 @@ impl FlowPicture for FlowWindows {
     }
 }
 
-/// Draws the windows of a flow of a capture (own): each packet of the flow of this number, as `show` numbers flows
-/// after `unwrap`, has a column in two charts, one for each end. A window is not on the wire. So each chart is what
-/// CCID 2 counts that is told of the packets with later numbers: of the end's packets of data, and of the Ack Vectors
-/// that go to it, with an Ack Ratio of 2 (RFC 4341, section 5). Of timers it is told nothing. Below both charts are the
-/// options that confirm features. The ends are those of [`ladder_of_flow`](crate::ladder_of_flow).
+/// Draws the windows of a flow of a capture (own). Each packet of the flow of this number has a column in two charts,
+/// one for each end; flows are numbered as `show` numbers them after `unwrap`. A window is not on the wire. So each
+/// chart shows what CCID 2 counts if it is given the packets with later numbers: the end's packets of data, and the Ack
+/// Vectors that go to it, with an Ack Ratio of 2 (RFC 4341, section 5). It is given no timers. Below both charts are
+/// the options that confirm features. The ends are those of [`ladder_of_flow`](crate::ladder_of_flow).
 ///
-/// The capture is one that `unwrap` takes. Input comes where it has a fault; what came before is drawn. With status 0
-/// or 1 the output is that of the whole input, with another a front of it. Read comes where the source failed, Write
-/// where the sink did, and Memory where no memory was left.
+/// The capture is one that `unwrap` takes. Input means that it has a fault; what came before is drawn. With status 0 or
+/// 1 the output is that of the whole input, with another a prefix of it. Read means that the source failed, Write that
+/// the sink did, and Memory that no memory was left.
 pub fn windows_of_flow<S: Source, K: Sink>(
     alloc: Global,
     flow: u64,

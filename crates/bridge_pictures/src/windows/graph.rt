@@ -1,4 +1,4 @@
-//! The graph: a chart for each end over the same columns, and below them what was told of features.
+//! The graph: a chart for each end over the same columns, and below them the values of features.
 ghost use Rattle.std.specs.Prelude.{◌≡◌, ◌+◌, ◌≤◌, ◌^◌, ◌++◌, OnOk};
 ghost use Rattle.bridge_pictures.specs.Graph as spec;
 
@@ -11,13 +11,12 @@ use std::alloc::Global;
 use std::marker::Model;
 use tool_text::{put, put_number};
 
-// The first chart begins so far from the top, and the second so far below the first.
+// The first chart begins this far from the top, and the second this far below the first.
 const TOP: u64 = 60;
 
 const BETWEEN: u64 = 60;
 
-// The columns are numbered so far below the second chart, the notes' heading is so far below it, and they begin so far
-// below it.
+// How far below the second chart the numbers of the columns are, the heading of the notes, and the first note.
 const NUMBERS: u64 = 26;
 
 const HEADING: u64 = 60;
@@ -27,14 +26,14 @@ const NOTES: u64 = 82;
 // A note has this height.
 const NOTE: u64 = 18;
 
-// The edges at the right and at the bottom, and the least width.
+// The margins at the right and at the bottom, and the least width.
 const RIGHT: u64 = 60;
 
 const BOTTOM: u64 = 20;
 
 const LEAST: u64 = 900;
 
-// Every so many columns one is numbered.
+// One column in this many is numbered.
 const NUMBERED: u32 = 20;
 
 /// A graph while it is drawn.
@@ -123,7 +122,7 @@ impl Graph {
         self.columns
     }
 
-    /// Draws a column: what both ends count where this happened. NoMemory comes where no memory was left, here and
+    /// Draws a column: what both ends count after this happened. NoMemory means that no memory was left, here and
     /// below.
     #[tactic(auto, unfolding(crate::specs::Graph::counts_drawn))]
     pub(crate) fn draw(
@@ -154,7 +153,7 @@ impl Graph {
         Ok(())
     }
 
-    // Where the client's chart stands on its line.
+    // Where the line of the client's chart is.
     fn client_bottom(&self) -> u64
         ensures value { result ≡ spec.client_bottom self.now }
         ensures low { result ≤ 2 ^ 37 }
@@ -162,7 +161,7 @@ impl Graph {
         TOP + self.client.height()
     }
 
-    // Where the server's chart stands on its line.
+    // Where the line of the server's chart is.
     fn server_bottom(&self) -> u64
         ensures value { result ≡ spec.server_bottom self.now }
         ensures low { result ≤ 2 ^ 38 }
@@ -224,7 +223,7 @@ impl Graph {
         put_group_end(text)
     }
 
-    // Puts the notes, under what they are.
+    // Puts the notes, under their heading.
     #[tactic(auto, unfolding(crate::specs::Graph::notes_told))]
     fn put_notes(&self, text: &mut Vec<u8>, heading: &[u8]) -> Result<(), NoMemory>
         ensures { OnOk result (text.new.items ≡ text.old.items ++ spec.notes_told self.now heading.now) }

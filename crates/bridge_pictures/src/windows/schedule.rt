@@ -52,7 +52,7 @@ impl WorldWindows {
         }
     }
 
-    // Draws the column of an event, after which the world stands so.
+    // Draws the column of an event that left this world.
     #[tactic(auto, unfolding(crate::specs::PlayState::world_drawn))]
     fn draw(&mut self, world: &World<Kinds>, said: &[u8]) -> Result<(), NoMemory>
         ensures { OnOk result (self.new ≡ spec.world_drawn self.old world.now said.now) }
@@ -165,13 +165,13 @@ impl LineJob for PlayedWindows {
 
 /// Draws the windows of a schedule (own): it reads its lines as `run` does, plays them on the same two ends, and writes
 /// a picture, one SVG file. Each event has a column in two charts, one for each end: how many packets of data its
-/// congestion control lets be in flight, how many are, and where the window fell. Below a chart stands a mark in the
-/// column in which a frame was sent that the other end never processed. Below both charts are the values of an end's
-/// features, at the first event and wherever they changed.
+/// congestion control allows in flight, how many are in flight, and where the window fell. A mark below a chart is in
+/// the column in which a frame was sent that the other end never processed. Below both charts are the values of an
+/// end's features, at the first event and at each change.
 ///
-/// Where a line is refused, nothing is written, and its refusal is answered. With status 0 or 1 the output is that of the
-/// whole input, with another a front of it. Read comes where the source failed, Write where the sink did, and Memory
-/// where no memory was left.
+/// If a line is refused, nothing is written, and its refusal is returned. With status 0 or 1 the output is that of the
+/// whole input, with another a prefix of it. Read means that the source failed, Write that the sink did, and Memory
+/// that no memory was left.
 pub fn windows_of_schedule<S: Source, K: Sink>(
     alloc: Global,
     input: &mut S,

@@ -1,4 +1,4 @@
-//! CCID 2, told what is seen of a sender.
+//! CCID 2, given what is seen of a sender.
 ghost use Rattle.std.specs.Prelude.{◌≡◌, ◌≤◌, length};
 ghost use Rattle.packet_show.specs.Lines.{parts_by};
 ghost use Rattle.bridge_pictures.specs.Senders as spec;
@@ -13,7 +13,7 @@ use seq_circle::Seq48;
 // The Ack Ratio of the usual ends (RFC 4340, section 11.3).
 const RATIO: u16 = 2;
 
-// A packet of data that is counted: its number, where that has 48 bits.
+// A packet of data that is counted: its number, if that has 48 bits.
 fn data_number(header: &Header) -> Option<Seq48>
     ensures { result ≡ spec.data_number header.now }
 {

@@ -23,7 +23,7 @@ pub(crate) struct Departure {
     pub(crate) number: Seq48,
 }
 
-/// What is kept of an end: the values of its features that were told last, and the frames that it sent.
+/// What is kept of an end: the values of its features that were written last, and the frames that it sent.
 #[derive(Drop)]
 pub(crate) struct Trace {
     rows: Vec<u8>,
@@ -94,7 +94,7 @@ impl Trace {
         Ok(())
     }
 
-    // Notes the values of the end's features, and tells them below the charts where they are others than before.
+    // Notes the values of the end's features, and writes them below the charts if they changed.
     #[tactic(auto, unfolding(crate::specs::Trace::rows_told, crate::specs::Trace::rows_kept))]
     fn tell_rows(
         &mut self,
@@ -116,8 +116,7 @@ impl Trace {
         Ok(())
     }
 
-    /// Notes what an end has sent and holds by the last column. NoMemory comes where no memory was left, here and
-    /// below.
+    /// Notes what an end has sent and holds by the last column. NoMemory comes if no memory was left, here and below.
     #[tactic(auto, unfolding(crate::specs::Trace::end_told, crate::specs::Trace::end_watched))]
     pub(crate) fn watch(
         &mut self,
