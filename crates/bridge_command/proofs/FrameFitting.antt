@@ -1,4 +1,4 @@
--- The frames that a transcript tells fit their records.
+-- The frames of a transcript fit their records.
 use Rattle.std.proofs.Common.{arith, ◌≡◌, ◌≤◌, ◌<◌, ◌^◌, ℕ, ◌+◌, List, [], ◌∷◌, ◌++◌, length, ◌==◌, Bool, true, false, nat_lt, if◌then◌else◌, Option, Some, None, Result, Ok, Err, refl, sym, ap, ◌∙◌, subst}
 use Rattle.std.specs.Prelude.{All, IfOk, IfSome, ⊤, codes, flat_map, map}
 use Rattle.std.proofs.lemmas.Bool.{ltb-false}
@@ -49,7 +49,7 @@ abbrev FitsRead : {E : Type 0} → Result TranscriptLine E → Type 0
 FitsRead (Ok t) = FitsTold t
 FitsRead (Err fault) = ⊤
 
--- and of what a line tells, if it tells something
+-- and of what a line means, if it means something
 abbrev FitsLine : Result (Option TranscriptLine) LineFault → Type 0
 FitsLine (Ok (Some t)) = FitsTold t
 FitsLine (Ok None) = ⊤

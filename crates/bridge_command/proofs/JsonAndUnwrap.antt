@@ -1,4 +1,4 @@
--- `unwrap` and `json` go through a capture side by side: where the one makes a record, the other tells it.
+-- `unwrap` and `json` go through a capture side by side: where the one makes a record, the other writes it.
 use Rattle.std.proofs.Common.{◌≡◌, refl, ap, Bool, false, ℕ, zero, suc, ◌+◌, ◌-◌, List, [], ◌∷◌, map, Some, None}
 use Rattle.capture_reader.specs.Records.{RecordParts}
 use Rattle.bridge_records.specs.Writing.{RawRecord}
@@ -11,7 +11,7 @@ use Rattle.bridge_command.specs.Unwrapping.{CapturePart, records_among, unwrap_w
 use Rattle.bridge_command.specs.Telling.{JsonRecord, JsonParts, first_telling, json_pieces, json_work, telling_after}
 use Rattle.dccp_io.specs.Counts.{one_more}
 
--- where reading stands, of either
+-- how far reading is, of either
 abbrev State : Type 0
 State = RecordsState (Unit {0})
 

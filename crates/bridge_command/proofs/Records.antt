@@ -1,4 +1,4 @@
--- The records that a reader of captures finds are unwrapped by `unwrap`, and told by `json`, one by one.
+-- The records that a reader of captures finds are unwrapped by `unwrap`, and written by `json`, one by one.
 use Rattle.std.proofs.Common.{◌≡◌, refl, ap, ◌∙◌, ℕ, Bool, List, [], ◌∷◌, None, Ok}
 use Rattle.std.specs.Prelude.{map}
 use Rattle.capture_reader.specs.Format.{opened}

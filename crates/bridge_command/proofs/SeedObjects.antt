@@ -1,4 +1,4 @@
--- The object of a seed has a text and whole numbers alone.
+-- The object of a seed has only a text and whole numbers.
 use Rattle.std.proofs.Common.{◌≡◌, refl, Bool, true, false, nat_lt, ◌||◌, ◌==◌, List, codes, ℕ}
 use Rattle.std.specs.Prelude.{if◌then◌else◌}
 use Rattle.serde_json.specs.Data.{Members, no_members, number, string, unsigned}

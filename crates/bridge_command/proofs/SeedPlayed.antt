@@ -42,7 +42,7 @@ use Rattle.bridge_command.proofs.SeedDrawn.{IsBrief, brief-drawn, brief-open}
 use Rattle.bridge_command.proofs.SeedReading.{line-gone, read-clean}
 use Rattle.schedule_text.specs.Reading.{read_line}
 
--- where a schedule stands while it is played, of which `world_of` tells
+-- the state of a schedule while it is played, of which `world_of` speaks
 abbrev domain : {A B : Type 0} → (A → B) → Type 0
 domain {A} {B} f = A
 
@@ -129,7 +129,7 @@ event-goes play number given event rest run last more here few ok brief room fol
 
 -- ---- the lines of further events
 
--- Each of so many further events can happen, and is said in a short line.
+-- Each of this many further events can happen, and is said in a short line.
 abbrev Passes : ℕ → RunState → Type 0
 Passes zero run = ⊤
 Passes (suc n) run = IsOk (happens_to kinds_control run.world (next_event run)) × (IsBrief (next_event run) × Passes n (goes_on run))

@@ -9,7 +9,7 @@ use Rattle.world_events.specs.declared.event.Event.{Event}
 use Rattle.world_events.specs.declared.event.Event.TheVariants.{Open}
 use Rattle.bridge_command.specs.Schedule.{event_line, event_lines}
 
--- After so many of all further events, the lines of those are written, and those of the rest are to come.
+-- After this many of all further events, the lines of those are written, and those of the rest are to come.
 pub record IsTold (all done : ℕ) (first run : RunState) (before now : List ℕ) : Type 0 where
   pub way : IsUnderWay all done first run
   pub lines : now ++ event_lines (next_events (all - done) run) ≡ before ++ event_lines (next_events all first)

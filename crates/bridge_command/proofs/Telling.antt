@@ -1,4 +1,4 @@
--- What a form owes, where no memory was left to tell why its input is refused.
+-- What a form has to prove if no memory was left to say why its input is refused.
 use Rattle.std.proofs.Common.{arith, refl, sym, ap, ◌∙◌, subst, inl, inr, ℕ, Bool, List, length, Option}
 use Rattle.std.proofs.lemmas.List.{take_all}
 use Rattle.std.specs.Io.KnownBytes.{append_known}
@@ -13,7 +13,7 @@ begun-whole : (before after : Option (List ℕ)) (text : List ℕ) → HasTaken 
 begun-whole before after text whole =
     (length text, whole ∙ ap (append_known before) (sym (take_all (length text) text (omega arith))))
 
--- however a job ended, a front of its text was written
+-- however a job ended, a prefix of its text was written
 begun-so : (end : JobEnd) (text : List ℕ) (refused : Bool) (left before after : Option (List ℕ)) → Answers text refused end left before after
     → HasBegun before after text
 begun-so ended.Done text refused left before after answers = begun-whole before after text (answers.whole (inl refl))
@@ -22,7 +22,7 @@ begun-so ended.Read text refused left before after answers = answers.front (inl 
 begun-so ended.Write text refused left before after answers = answers.front (inr (inl refl))
 begun-so ended.Memory text refused left before after answers = answers.front (inr (inr refl))
 
--- a call that ends as its form did, or for want of memory, owes what the form does
+-- a call that ends as its form did, or for lack of memory, owes what the form does
 pub answers-as : (end result : JobEnd) (text : List ℕ) (refused : Bool) (left before after : Option (List ℕ)) → EndsAs end result
     → Answers text refused end left before after → Answers text refused result left before after
 answers-as end result text refused left before after (inl is) answers = subst (λ (r : JobEnd). Answers text refused r left before after) (sym is) answers

@@ -1,4 +1,4 @@
--- What `capture` writes of a transcript: a capture with a record for each frame that was sent, or that it says came (own).
+-- What `capture` writes of a transcript: a capture with a record for each frame that was sent, or that came by the transcript (own).
 use Rattle.std.specs.Prelude.{ℕ, Bool, false, is_some, List, [], ◌++◌, Option, Some, None, Result, Ok, Err}
 use Rattle.bridge_records.specs.Writing.{file_header, raw_record}
 use Rattle.dccp_listener.specs.declared.peer.Peer.{Peer}
@@ -17,7 +17,7 @@ use Rattle.bridge_command.specs.FrameReading.{travels}
 use Rattle.bridge_command.specs.FrameRecords.{TimedFrame, frame_record, travel_from, travel_of}
 use Rattle.bridge_command.specs.declared.capture.records.Travel.{Travel}
 
--- before the first line: an end alone is a server unless it opens
+-- before the first line: a single end is a server unless it opens
 abbrev pub first_clock : Clock
 first_clock = record { seconds = 0; alone = Server }
 
@@ -25,16 +25,16 @@ first_clock = record { seconds = 0; alone = Server }
 abbrev pub timed : Clock → Travel → List ℕ → TimedFrame
 timed clock travel frame = record { seconds = clock.seconds; travel = travel; frame = frame }
 
--- the way of a frame that came: from a peer of a listener, or to an end alone from the other side
+-- the way of a frame that came: from a peer of a listener, or from the other side to a single end
 abbrev pub travel_in : Clock → Option Peer → Travel
 travel_in clock (Some peer) = travel_from peer
 travel_in clock None = travel_of (other clock.alone)
 
--- a frame that comes this way at this time, whose checksum is set where its line says so
+-- a frame that comes this way at this time, whose checksum is set if its line says so
 abbrev pub timed_arrival : Clock → Travel → FrameLine → TimedFrame
 timed_arrival clock travel frame = timed clock travel (arriving (travels travel) frame)
 
--- A line with a number sets the time, one with a frame has its record, and an end alone that opens is a client.
+-- A line with a number sets the time, a line with a frame has a record, and a single end that opens is a client.
 abbrev pub by_told : Clock → Result (Option TranscriptLine) LineFault → LineVerdict TimedFrame Clock
 by_told clock (Err fault) = Refused fault
 by_told clock (Ok None) = Accepted None clock
@@ -52,11 +52,11 @@ transcript_judged clock number line = by_told clock (told_of_line line)
 abbrev pub capture_job : Job TimedFrame Clock
 capture_job = record { judged = transcript_judged; told = λ f. raw_record (frame_record f); ending = λ clock. [] }
 
--- what the lines of a transcript come to
+-- the result of the lines of a transcript
 abbrev pub transcript_gone : List ℕ → LinesResult TimedFrame Clock
 transcript_gone input = gone_through capture_job first_clock input
 
--- What `capture` writes of an input: the file header, and the records.
+-- What `capture` writes for an input: the file header, and the records.
 abbrev pub frames_capture : List ℕ → List ℕ
 frames_capture input = file_header false ++ text_apart capture_job (transcript_gone input)
 
@@ -68,6 +68,6 @@ transcript_refusal input = refusal_told (transcript_gone input)
 abbrev pub transcript_refused : List ℕ → Bool
 transcript_refused input = is_some (transcript_gone input).refusal
 
--- How many bytes of an input its accepted lines have, those before the first that is refused.
+-- How many bytes of an input the accepted lines have, which are those before the first refused one.
 abbrev pub transcript_accepted : List ℕ → ℕ
 transcript_accepted input = (transcript_gone input).accepted

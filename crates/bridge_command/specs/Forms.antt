@@ -29,22 +29,22 @@ has_input (form.Seed run) = false
 has_input (form.Seeds range) = false
 has_input _ = true
 
--- what a picture of lines has: a ladder of a transcript, or the windows of a schedule
+-- the text of a picture of lines: a ladder of a transcript, or the windows of a schedule
 abbrev pub picture_text : Picture → List ℕ → List ℕ
 picture_text pictures.Ladder bytes = ladder_text bytes
 picture_text pictures.Windows bytes = windows_text bytes
 
--- it refuses a line
+-- a picture of lines refuses a line
 abbrev pub picture_refused : Picture → List ℕ → Bool
 picture_refused pictures.Ladder bytes = ladder_refused bytes
 picture_refused pictures.Windows bytes = windows_refused bytes
 
--- how many bytes its accepted lines have
+-- how many bytes the accepted lines of a picture have
 abbrev pub picture_accepted : Picture → List ℕ → ℕ
 picture_accepted pictures.Ladder bytes = ladder_accepted bytes
 picture_accepted pictures.Windows bytes = windows_accepted bytes
 
--- what a picture of a capture's flow has
+-- the text of a picture of a capture's flow
 abbrev pub flow_picture_text : Picture → ℕ → List ℕ → List ℕ
 flow_picture_text pictures.Ladder flow bytes = flow_ladder_text flow bytes
 flow_picture_text pictures.Windows flow bytes = flow_windows_text flow bytes
@@ -59,9 +59,8 @@ abbrev pub flow_picture_accepted : Picture → ℕ → List ℕ → ℕ
 flow_picture_accepted pictures.Ladder flow bytes = (flow_ladder_pieces flow bytes).accepted
 flow_picture_accepted pictures.Windows flow bytes = (flow_windows_pieces flow bytes).accepted
 
--- What a form writes of the bytes that it reads, when all is written: a capture of the frames that they tell, one of raw
--- IP, the schedule of a seed, an object of each seed, a flow's packets as lines of `replay`, an object of each record,
--- and a picture of lines or of a flow.
+-- What a form writes for the bytes that it reads, when all is written: a capture of the frames that they list, a capture of raw IP, the schedule
+-- of a seed, an object for each seed, a flow's packets as lines of `replay`, an object for each record, and a picture of lines or of a flow.
 abbrev pub bridge_text : BridgeForm → List ℕ → List ℕ
 bridge_text form.Capture bytes = frames_capture bytes
 bridge_text form.Unwrap bytes = unwrapped_text bytes
@@ -72,8 +71,8 @@ bridge_text (form.Json payload) bytes = json_text payload bytes
 bridge_text (form.Picture picture) bytes = picture_text picture bytes
 bridge_text (form.FlowPicture picture flow) bytes = flow_picture_text picture flow bytes
 
--- Whether a form refuses these bytes: a line of them, or a capture for its fault. (Of `seed` and `seeds`, which read none, the
--- rows here and below are those of an empty input.)
+-- Whether a form refuses these bytes: a line of them, or a capture for its fault. (`seed` and `seeds` read none; for them the rows here and
+-- below are those of an empty input.)
 abbrev pub is_bridge_refused : BridgeForm → List ℕ → Bool
 is_bridge_refused form.Capture bytes = transcript_refused bytes
 is_bridge_refused form.Unwrap bytes = is_unwrapped_faulty bytes
@@ -100,18 +99,18 @@ abbrev pub picture_refusal : Picture → List ℕ → Option LineRefusal
 picture_refusal pictures.Ladder bytes = ladder_refusal bytes
 picture_refusal pictures.Windows bytes = windows_refusal bytes
 
--- why a picture of a capture's flow is, if it is
+-- why a picture of a capture's flow is refused, if it is
 abbrev pub flow_picture_refusal : Picture → ℕ → List ℕ → Option CaptureRefusal
 flow_picture_refusal pictures.Ladder flow bytes = capture_refusal (flow_ladder_pieces flow bytes)
 flow_picture_refusal pictures.Windows flow bytes = capture_refusal (flow_windows_pieces flow bytes)
 
--- what of the capture is skipped
+-- what is skipped of the capture
 abbrev pub flow_picture_skips : Picture → ℕ → List ℕ → Skips
 flow_picture_skips pictures.Ladder flow bytes = capture_skips (flow_ladder_pieces flow bytes)
 flow_picture_skips pictures.Windows flow bytes = capture_skips (flow_windows_pieces flow bytes)
 
--- What a form tells of these bytes apart from its output: what of a capture is skipped, and why they are refused, if they
--- are, which is a line or a fault of the capture.
+-- What a form reports about these bytes besides its output: what is skipped of a capture, and why the bytes are refused, if they are: for a
+-- line, or for a fault of the capture.
 abbrev pub bridge_said : BridgeForm → List ℕ → Remarks
 bridge_said form.Capture bytes = line_said (transcript_refusal bytes)
 bridge_said form.Unwrap bytes = capture_said (capture_refusal (unwrapped_pieces bytes)) (capture_skips (unwrapped_pieces bytes))
@@ -129,7 +128,7 @@ bridge_reads_past form.Capture = 16384
 bridge_reads_past (form.Picture picture) = 16384
 bridge_reads_past _ = 524288
 
--- Where a form reads its input, over a source that tells its bytes, something holds of them.
+-- If a form reads its input, over a source whose bytes contracts can see, something holds of them.
 abbrev pub OnBridgeRead : BridgeForm → Option (List ℕ) → (List ℕ → Type 0) → Type 0
 OnBridgeRead form told Holds = has_input form ≡ true → (bytes : List ℕ) → told ≡ Some bytes → Holds bytes
 

@@ -9,7 +9,7 @@ use Rattle.world_events.specs.declared.event.Side.{Side}
 use Rattle.world_events.specs.declared.event.Side.TheVariants.{Client, Server}
 use Rattle.bridge_command.specs.declared.capture.records.Travel.{Travel}
 
--- A frame that was sent, or came; between which addresses, and when: the number of the line that was answered, as seconds.
+-- A frame that was sent or came, the addresses between which it went, and its time: the number of the line that was answered, as seconds.
 pub record TimedFrame : Type 0 where
   pub seconds : ℕ
   pub travel : Travel
@@ -53,7 +53,7 @@ ip_header_with sum t total = ip_front sum total ++ both_addresses t
 abbrev pub ip_checksum : Travel → ℕ → ℕ
 ip_checksum t total = 65535 - ones_complement (word_sum (ip_header_with 0 t total))
 
--- the header of a packet of so many bytes
+-- the header of a packet of this many bytes
 abbrev pub ip_header : Travel → ℕ → List ℕ
 ip_header t total = ip_header_with (ip_checksum t total) t total
 

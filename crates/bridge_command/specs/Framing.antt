@@ -37,20 +37,20 @@ abbrev pub frame_said : Result (List ℕ) NoFrame → Option FrameLine
 frame_said (Ok bytes) = Some (frame_line true bytes)
 frame_said (Err why) = None
 
--- `replay` reads its two lines: the first says nothing, and the second its frame, or nothing where it has none.
+-- `replay` reads its two lines: the first means nothing, and the second is its frame, or means nothing if it has none.
 pub record IsReadBack (p : FlowPacket) : Type 0 where
   pub comment : List ℕ
   pub is_line : comment_line p.line ≡ comment ++ codes "\n"
   pub nothing : read_frame comment ≡ Ok None
   pub frame : read_frame (packet_frame_words p.frame) ≡ Ok (frame_said p.frame)
 
--- before the first record, where this flow is asked for
+-- before the first record, if this flow is asked for
 abbrev pub first_framing : ℕ → Side → FlowSearch
 first_framing flow side =
     record { flow = flow; side = side; end = usual_end side; flows = []; known = None }
 
--- what is known of the flow at a packet of this type that this end sent: whose packet comes first is the client, unless
--- it answers as a server does
+-- what is known of the flow at a packet of this type that this end sent: the sender of the first packet is the client, unless it answers as a
+-- server does
 abbrev pub known_by : Option KnownFlow → AddressAndPort → PacketType → KnownFlow
 known_by (Some known) from kind = known
 known_by None from kind = record { ends = ends_by None from kind; initial = None }
@@ -61,18 +61,18 @@ initial_by (Some initial) number = Some initial
 initial_by None (Long number) = Some number
 initial_by None (Short number) = None
 
--- the same of the flow, once the captured end sent this number
+-- what is known of the flow, after the captured end sent this number
 abbrev pub known_number : KnownFlow → Number → KnownFlow
 known_number known number = record { ends = known.ends; initial = initial_by known.initial number }
 
--- a packet goes to this side where the other sent it
+-- a packet goes to this side if the other side sent it
 abbrev pub goes_to : Side → Side → Bool
 goes_to Client Client = false
 goes_to Client Server = true
 goes_to Server Client = true
 goes_to Server Server = false
 
--- the state with this known of the flow
+-- the same state, when this is known of the flow
 abbrev pub with_known : FlowSearch → KnownFlow → FlowSearch
 with_known s known = record s { known = Some known }
 
@@ -81,23 +81,23 @@ abbrev pub flow_packet : FlowSearch → KnownFlow → RecordParts → DatagramPa
 flow_packet s known entry there packet =
     record { line = packet_line entry there packet s.flow; frame = frame_for s.end known.initial packet }
 
--- nothing is written of a record
+-- a record writes nothing
 abbrev pub passed_over : FlowSearch → RecordStep FlowPacket FlowSearch
 passed_over s = record { deed = None; next = s }
 
--- a packet that goes to the side has its lines, and of one that the captured end sent the number is noted
+-- a packet that goes to the side has its lines; the number of a packet that the captured end sent is noted
 abbrev pub by_direction : FlowSearch → KnownFlow → RecordParts → DatagramParts → Parts → Bool → RecordStep FlowPacket FlowSearch
 by_direction s known entry there packet goes =
     if goes then record { deed = Some (flow_packet s known entry there packet); next = with_known s known }
     else passed_over (with_known s (known_number known packet.header.number))
 
--- the same by who sent it
+-- a packet of the flow, from the side that sent it
 abbrev pub by_sender : FlowSearch → RecordParts → DatagramParts → Parts → AddressAndPort → RecordStep FlowPacket FlowSearch
 by_sender s entry there packet from =
     let known = known_by s.known from (packet_type packet.header.kind) in
     by_direction s known entry there packet (goes_to s.side (side_from known.ends from))
 
--- a packet of the flow that is asked for is looked at, and one of another flow isn't
+-- a packet of the flow that is asked for is looked at, and one of another flow is not
 abbrev pub by_number : FlowSearch → ℕ → RecordParts → DatagramParts → Parts → RecordStep FlowPacket FlowSearch
 by_number s number entry there packet =
     if number == s.flow then by_sender s entry there packet (from_end there.pseudo packet.header.from) else passed_over s
@@ -107,21 +107,21 @@ abbrev pub by_flow : FlowSearch → RecordParts → DatagramParts → Parts → 
 by_flow s entry there packet flow =
     by_number (record s { flows = with_flow flow s.flows }) (flow_number flow s.flows) entry there packet
 
--- DCCP bytes that are no packet are passed over
+-- DCCP bytes that are no packet are skipped
 abbrev pub by_decoded : FlowSearch → RecordParts → DatagramParts → Result Parts Malformed → RecordStep FlowPacket FlowSearch
 by_decoded s entry there (Ok packet) = by_flow s entry there packet (flow_of there.pseudo packet.header.from packet.header.to)
 by_decoded s entry there (Err why) = passed_over s
 
--- so is a record that carries no DCCP
+-- a record that carries no DCCP is skipped, too
 abbrev pub by_carried : FlowSearch → RecordParts → Option DatagramParts → RecordStep FlowPacket FlowSearch
 by_carried s entry None = passed_over s
 by_carried s entry (Some there) = by_decoded s entry there (decoded there.bytes)
 
--- what a record comes to
+-- the result of a record
 unfoldable pub framed_record : FlowSearch → RecordParts → RecordStep FlowPacket FlowSearch
 framed_record s entry = by_carried s entry (carried entry.link entry.bytes)
 
--- What `frames` makes of the records of a capture. After the last stands nothing.
+-- What `frames` makes of the records of a capture. Nothing follows the last.
 abbrev pub frames_work : RecordWork FlowPacket FlowSearch
 frames_work = record {
   begun = λ s nanos. passed_over s;
@@ -130,11 +130,11 @@ frames_work = record {
   closing = λ job untold records end. [];
 }
 
--- what the pieces of an input come to, for this flow and side
+-- the result of the pieces of an input, for this flow and side
 abbrev pub frames_pieces : ℕ → Side → List ℕ → PiecesResult FlowPacket (RecordsState FlowSearch)
 frames_pieces flow side input = records_of frames_work (first_framing flow side) input
 
--- What `frames` writes of an input.
+-- What `frames` writes for an input.
 abbrev pub frames_text : ℕ → Side → List ℕ → List ℕ
 frames_text flow side input = text_of_pieces (records_work frames_work) (frames_pieces flow side input)
 

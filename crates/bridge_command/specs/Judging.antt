@@ -10,7 +10,7 @@ use Rattle.bridge_command.specs.Skips.{ip_skip}
 use Rattle.bridge_command.specs.declared.json.skips.Skip.{Skip}
 use Rattle.bridge_command.specs.declared.json.skips.Skip.TheVariants as skip
 
--- What a record holds: a packet, bytes that are none though all of them are there, or nothing that can be read.
+-- What a record holds: a packet, bytes that are no packet though all of them are there, or nothing that can be read.
 pub data RecordReading : Type 0 where
   HoldsPacket : (there : DatagramParts) (packet : Parts) → RecordReading
   HoldsMalformed : (there : DatagramParts) (why : Malformed) → RecordReading
@@ -26,7 +26,7 @@ abbrev pub judged_bytes : DatagramParts → Result Parts Malformed → RecordRea
 judged_bytes there (Ok packet) = HoldsPacket there packet
 judged_bytes there (Err why) = judged_fault there there.whole why
 
--- these bytes, if any were found in the IP packet
+-- what these bytes are, if any were found in the IP packet
 abbrev pub judged_carried : List ℕ → Option DatagramParts → RecordReading
 judged_carried ip None = HoldsNone (ip_skip ip)
 judged_carried ip (Some there) = judged_bytes there (decoded there.bytes)
@@ -41,13 +41,13 @@ shown_of (HoldsPacket there packet) = Line
 shown_of (HoldsMalformed there why) = Line
 shown_of (HoldsNone why) = Skipped
 
--- the number of the flow of what is held, where these flows were seen, as `show` has it; only packets have one
+-- the number of the flow of what is held, after these flows were seen, as `show` has it; only packets have one
 abbrev pub flow_number_of : List Flow → RecordReading → ℕ
 flow_number_of seen (HoldsPacket there packet) = flow_number (flow_of there.pseudo packet.header.from packet.header.to) seen
 flow_number_of seen (HoldsMalformed there why) = 0
 flow_number_of seen (HoldsNone why) = 0
 
--- the flows that were seen after it
+-- the flows that were seen after what is held
 abbrev pub flows_after : List Flow → RecordReading → List Flow
 flows_after seen (HoldsPacket there packet) = with_flow (flow_of there.pseudo packet.header.from packet.header.to) seen
 flows_after seen (HoldsMalformed there why) = seen

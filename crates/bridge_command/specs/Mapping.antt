@@ -16,11 +16,11 @@ use Rattle.bridge_command.specs.declared.frames.mapping.NoFrame.{NoFrame}
 use Rattle.bridge_command.specs.declared.frames.mapping.NoFrame.TheVariants as none
 use Rattle.bridge_command.specs.declared.frames.mapping.UsualEnd.{UsualEnd}
 
--- what of an end's configuration the packets that it gets depend on
+-- the part of an end's configuration that the packets to it depend on
 abbrev pub end_of_config : Config → UsualEnd
 end_of_config config = record { own_port = config.own_port; peer_port = config.peer_port; service = config.service; iss = config.iss }
 
--- the same of the usual end of a side, which `replay` plays
+-- that part for the usual end of a side, which `replay` plays
 abbrev pub usual_end : Side → UsualEnd
 usual_end side = end_of_config (usual (role_of side))
 
@@ -29,12 +29,12 @@ usual_end side = end_of_config (usual (role_of side))
 abbrev pub moved_ack : UsualEnd → ℕ → ℕ → ℕ
 moved_ack end initial ack = residue (end.iss + distance initial ack)
 
--- the same in its form
+-- an acknowledgement number in its form, moved this way
 abbrev pub moved_number : UsualEnd → ℕ → Number → Number
 moved_number end initial (Long ack) = Long (moved_ack end initial ack)
 moved_number end initial (Short ack) = Short (moved_ack end initial ack % 2 ^ 24)
 
--- what a type alone carries: the Service Code is the end's, and the acknowledgement number is moved
+-- what only packets of one type carry: the Service Code is the end's, and the acknowledgement number is moved
 abbrev pub moved_kind : UsualEnd → ℕ → Kind → Kind
 moved_kind end initial (Request service) = Request end.service
 moved_kind end initial (Response ack service) = Response (moved_ack end initial ack) end.service
@@ -59,7 +59,7 @@ moved_header end initial h = record {
   kind = moved_kind end initial h.kind;
 }
 
--- a packet is too long for a frame: its header and options for a Data Offset, or all of it
+-- a packet is too long for a frame: its header and options are too long for a Data Offset, or the packet is too long
 abbrev pub is_too_long : Header → List ℕ → List ℕ → Bool
 is_too_long h options payload = nat_lt 1020 (header_length h + length (padded options)) || nat_lt 2044 (length (spelling h options payload))
 
@@ -67,12 +67,12 @@ is_too_long h options payload = nat_lt 1020 (header_length h + length (padded op
 abbrev pub frame_with : Header → List ℕ → List ℕ → Result (List ℕ) NoFrame
 frame_with h options payload = if is_too_long h options payload then Err none.FrameTooLong else Ok (spelling h options payload)
 
--- the frame of a captured packet, where the captured end's initial number is known, or why it has none
+-- the frame of a captured packet, given the captured end's initial number, or why it has none
 abbrev pub moved_frame : UsualEnd → ℕ → Parts → Result (List ℕ) NoFrame
 moved_frame end initial packet = frame_with (moved_header end initial packet.header) packet.options packet.payload
 
--- The frame of a captured packet, or why it has none. Where the captured end's initial number isn't known, one without
--- an acknowledgement number still has one.
+-- The frame of a captured packet, or why it has none. If the captured end's initial number is not known, only a packet without an
+-- acknowledgement number has a frame.
 abbrev pub frame_for : UsualEnd → Option ℕ → Parts → Result (List ℕ) NoFrame
 frame_for end (Some initial) packet = moved_frame end initial packet
 frame_for end None packet =

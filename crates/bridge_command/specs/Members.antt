@@ -10,7 +10,7 @@ use Rattle.bridge_command.specs.declared.json.objects.Object.{Object}
 abbrev pub members_seen : Object → Members
 members_seen o = members_view o.members.entries
 
--- what a list holds
+-- the values that a list holds
 abbrev pub listed : Items → List Data
 listed i = map view i.values.items
 
@@ -30,6 +30,6 @@ with_truth_named name is members = put name (boolean is) members
 abbrev pub with_list_named : List ℕ → List Data → Members → Members
 with_list_named name items members = put name (array (items_of items)) members
 
--- an object on a line of its own, without spaces
+-- an object on a separate line, without spaces
 abbrev pub object_line : Members → List ℕ
 object_line members = compact_text (object members) ++ codes "\n"

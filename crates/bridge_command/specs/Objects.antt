@@ -1,5 +1,4 @@
--- A record of a capture as an object (RFC 4340, section 5, for what the fields of a packet are; the names of members
--- are own).
+-- A record of a capture as an object (RFC 4340, section 5, for the fields of a packet; the names of members are own).
 use Rattle.std.specs.Prelude.{ℕ, ◌*◌, ◌/◌, ◌%◌, Bool, not, if◌then◌else◌, List, length, slice_index, codes}
 use Rattle.std.specs.Net.Addr.{segments_of}
 use Rattle.std.specs.Net.Text.{ipv4_text, ipv6_text}
@@ -31,7 +30,7 @@ use Rattle.bridge_command.specs.Skips.{skip_name}
 abbrev pub nanoseconds_of : Bool → ℕ → ℕ
 nanoseconds_of nanos fraction = if nanos then fraction else fraction * 1000
 
--- a record's number, its time, its link type, how many bytes it had there, and how many were captured
+-- a record's number, its time, its link type, how many bytes it had on the link, and how many were captured
 abbrev pub with_stamp : RecordParts → Members → Members
 with_stamp e members =
     with_number_named (codes "captured") (length e.bytes) (with_number_named (codes "length") e.original (with_number_named (codes "link") e.link
@@ -43,7 +42,7 @@ abbrev pub source_text : Pseudo → List ℕ
 source_text (V4 from to) = ipv4_text from
 source_text (V6 from to) = ipv6_text (segments_of from)
 
--- the same of the address that a packet goes to
+-- the address that a packet goes to
 abbrev pub destination_text : Pseudo → List ℕ
 destination_text (V4 from to) = ipv4_text to
 destination_text (V6 from to) = ipv6_text (segments_of to)
@@ -58,12 +57,12 @@ abbrev pub hops_of : Pseudo → List ℕ → ℕ
 hops_of (V4 from to) ip = slice_index ip 8
 hops_of (V6 from to) ip = slice_index ip 7
 
--- its ECN field, the last two bits of the byte that is there, or after the version in four bits (RFC 3168, section 5)
+-- its ECN field: the last two bits of the byte for it, which in IPv6 comes after the four bits of the version (RFC 3168, section 5)
 abbrev pub ecn_of : Pseudo → List ℕ → ℕ
 ecn_of (V4 from to) ip = slice_index ip 1 % 4
 ecn_of (V6 from to) ip = slice_index ip 1 / 16 % 4
 
--- both, and the addresses
+-- the hops, the ECN field and the addresses
 abbrev pub with_ip : DatagramParts → List ℕ → Members → Members
 with_ip there ip members =
     with_addresses there (with_number_named (codes "ecn") (ecn_of there.pseudo ip) (with_number_named (codes "ttl") (hops_of there.pseudo ip) members))
@@ -72,7 +71,7 @@ with_ip there ip members =
 abbrev pub with_ports : Header → Members → Members
 with_ports header members = with_number_named (codes "destination_port") header.to (with_number_named (codes "source_port") header.from members)
 
--- a sequence or acknowledgement number, as many of its bits as are written
+-- a sequence or acknowledgement number, with as many of its bits as are written
 abbrev pub number_written : Number → ℕ
 number_written (Long n) = n
 number_written (Short n) = n
@@ -98,7 +97,7 @@ with_code code detail members =
     with_number_named (codes "data_3") (slice_index detail 2) (with_number_named (codes "data_2") (slice_index detail 1)
     (with_number_named (codes "data_1") (slice_index detail 0) (with_number_named (codes "reset_code") code members)))
 
--- what a type alone carries (RFC 4340, sections 5.2 to 5.7)
+-- what only packets of one type carry (RFC 4340, sections 5.2 to 5.7)
 abbrev pub with_kind : Kind → Members → Members
 with_kind (Request service) members = with_service service members
 with_kind (Response ack service) members = with_service service (with_ack (Long ack) members)
@@ -116,11 +115,11 @@ abbrev pub with_options : Parts → Members → Members
 with_options packet members =
     with_list_named (codes "options") (option_values (options_of packet.options (is_data (packet_type packet.header.kind)))) members
 
--- the verdict on the checksum; it is unknown where bytes are missing
+-- the verdict on the checksum; it is unknown if bytes are missing
 abbrev pub verdict_name : DatagramParts → List ℕ
 verdict_name there = if there.whole then sum_name (checked there.pseudo there.bytes) else codes "unknown"
 
--- the bytes of data in hexadecimal, where they are asked for
+-- the bytes of data in hexadecimal, if they are asked for
 abbrev pub with_payload : Bool → List ℕ → Members → Members
 with_payload payload bytes members = if payload then with_text_named (codes "payload") (encode_lower bytes) members else members
 
@@ -128,7 +127,7 @@ with_payload payload bytes members = if payload then with_text_named (codes "pay
 abbrev pub with_rest : DatagramParts → Parts → Members → Members
 with_rest there packet members = with_text_named (codes "verdict") (verdict_name there) (with_number_named (codes "data") (length packet.payload) members)
 
--- a packet: its ports, its header, what its type alone carries, its options, and the rest
+-- a packet: its ports, its header, what only its type carries, its options, and the rest
 abbrev pub with_packet_fields : Bool → DatagramParts → Parts → Members → Members
 with_packet_fields payload there packet members =
     with_payload payload packet.payload (with_rest there packet (with_options packet (with_kind packet.header.kind
@@ -138,7 +137,7 @@ with_packet_fields payload there packet members =
 abbrev pub with_malformed : DatagramParts → List ℕ → Malformed → Members → Members
 with_malformed there ip why members = with_text_named (codes "malformed") (malformed_name why) (with_ip there ip members)
 
--- what a record holds: a packet of this flow, why its bytes are none, or why it is skipped
+-- what a record holds: a packet of this flow, or why its bytes are no packet, or why it is skipped
 abbrev pub with_judged : Bool → ℕ → List ℕ → RecordReading → Members → Members
 with_judged payload flow ip (HoldsPacket there packet) members =
     with_packet_fields payload there packet (with_number_named (codes "flow") flow (with_ip there ip members))

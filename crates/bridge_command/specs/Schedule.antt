@@ -25,6 +25,6 @@ event_lines events = flat_map event_line events
 abbrev pub number_lines : ℕ → List ℕ
 number_lines seed = number_line Client (initial_number (generator seed)) ++ number_line Server (initial_number (after_two (generator seed)))
 
--- The schedule of a seed with so many events. Its ends are the usual ones except for these numbers.
+-- The schedule of a seed with this many events. Its ends are the usual ones except for their initial sequence numbers.
 unfoldable pub seed_text : ℕ → ℕ → List ℕ
 seed_text seed events = number_lines seed ++ event_lines (seeded_events seed events)

@@ -1,4 +1,4 @@
--- What `seeds` tells of a campaign's seeds: an object a line for each (own; RFC 8259).
+-- What `seeds` writes about a campaign's seeds: an object for each, one a line (own; RFC 8259).
 use Rattle.std.specs.Prelude.{ℕ, zero, suc, ◌+◌, ◌||◌, ◌==◌, nat_lt, if◌then◌else◌, List, [], ◌++◌, codes}
 use Rattle.fault_campaign.specs.Seeded.{seeded_report}
 use Rattle.fault_campaign.specs.declared.report.Report.{Report}
@@ -6,8 +6,7 @@ use Rattle.serde_json.specs.Data.{Members, no_members}
 use Rattle.tool_forms.specs.declared.bridge_words.SeedRange.{SeedRange}
 use Rattle.bridge_command.specs.Members.{object_line, with_number_named, with_text_named}
 
--- what a run came to: a Reset came to an end or was its answer, or all eighteen features are settled at last, or some
--- are not
+-- the result of a run: an end got a Reset or sent one, or all eighteen features are settled at the end, or some are not
 abbrev pub seed_state : Report → List ℕ
 seed_state r =
     if nat_lt 0 r.was_reset || nat_lt 0 r.sent_reset then codes "reset"
@@ -26,7 +25,7 @@ with_outcomes r members =
     with_number_named (codes "sent_reset") r.sent_reset (with_number_named (codes "was_reset") r.was_reset (with_number_named (codes "synced") r.synced
     (with_number_named (codes "dropped") r.dropped (with_number_named (codes "delivered") r.delivered (with_number_named (codes "took") r.took members)))))
 
--- the calls that were refused, the features that are settled, and what the run came to
+-- the calls that were refused, the features that are settled, and the result of the run
 abbrev pub with_state : Report → Members → Members
 with_state r members =
     with_text_named (codes "state") (seed_state r) (with_number_named (codes "settled") r.settled (with_number_named (codes "refused") r.refused members))
@@ -35,11 +34,11 @@ with_state r members =
 unfoldable pub seed_members : ℕ → Report → Members
 seed_members seed r = with_state r (with_outcomes r (with_frames_counted seed r no_members))
 
--- its line, where the seed has so many events
+-- the line of a seed with this many events
 abbrev pub seed_line : ℕ → ℕ → List ℕ
 seed_line events seed = object_line (seed_members seed (seeded_report seed events))
 
--- the lines of so many seeds, from the first on
+-- the lines of this many seeds, from the first on
 abbrev pub seed_lines : ℕ → ℕ → ℕ → List ℕ
 seed_lines events first zero = []
 seed_lines events first (suc more) = seed_lines events first more ++ seed_line events (first + more)

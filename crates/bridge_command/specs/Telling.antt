@@ -1,4 +1,4 @@
--- What `json` writes of a capture, classic or pcapng: an object a line for each record (own).
+-- What `json` writes of a capture, classic or pcapng: an object for each record, one a line (own).
 use Rattle.std.specs.Prelude.{ℕ, Bool, is_some, List, [], ◌∷◌, codes, Option, Some, None}
 use Rattle.capture_reader.specs.Records.{RecordParts}
 use Rattle.packet_show.specs.Flows.{Flow}
@@ -21,21 +21,21 @@ abbrev pub json_closing : ℕ → Option PieceFault → List ℕ
 json_closing records None = []
 json_closing records (Some fault) = object_line (fault_members records fault)
 
--- A record as it is told: with the bytes of data or without them, and the number of its flow.
+-- A record as it is written: with the bytes of data or without them, and the number of its flow.
 pub record JsonRecord : Type 0 where
   pub payload : Bool
   pub flow : ℕ
   pub entry : RecordParts
 
--- its members
+-- the members of a record's object
 abbrev pub told_members : JsonRecord → Members
 told_members t = record_members t.payload t.flow t.entry
 
--- its line
+-- the line of a record
 abbrev pub told_line : JsonRecord → List ℕ
 told_line t = object_line (told_members t)
 
--- What is known while records are told: whether the bytes of data are asked for, and the flows that were seen.
+-- What is known while records are written: whether the bytes of data are asked for, and the flows that were seen.
 pub record JsonParts : Type 0 where
   pub payload : Bool
   pub seen : List Flow
@@ -44,7 +44,7 @@ pub record JsonParts : Type 0 where
 abbrev pub first_telling : Bool → JsonParts
 first_telling payload = record { payload = payload; seen = [] }
 
--- a record as it is told then
+-- a record as it is written when this is known
 abbrev pub record_told : JsonParts → RecordParts → JsonRecord
 record_told s e = record { payload = s.payload; flow = flow_number_of s.seen (judged_ip (ip_bytes e.link e.bytes)); entry = e }
 
@@ -56,12 +56,12 @@ telling_with s judged = record { payload = s.payload; seen = flows_after s.seen 
 abbrev pub telling_after : JsonParts → RecordParts → JsonParts
 telling_after s e = telling_with s (judged_ip (ip_bytes e.link e.bytes))
 
--- records as they are told, one after the other
+-- records as they are written, one after the other
 abbrev pub all_told : JsonParts → List RecordParts → List JsonRecord
 all_told s [] = []
 all_told s (e ∷ entries) = record_told s e ∷ all_told (telling_after s e) entries
 
--- What `json` makes of the records of a capture: it tells each, and keeps the flows.
+-- What `json` makes of the records of a capture: it writes each, and keeps the flows.
 abbrev pub json_work : RecordWork JsonRecord JsonParts
 json_work = record {
   begun = λ s nanos. record { deed = None; next = s };
@@ -70,11 +70,11 @@ json_work = record {
   closing = λ s untold records end. json_closing records end;
 }
 
--- what the pieces of an input come to
+-- the result of the pieces of an input
 abbrev pub json_pieces : Bool → List ℕ → PiecesResult JsonRecord (RecordsState JsonParts)
 json_pieces payload input = records_of json_work (first_telling payload) input
 
--- What `json` writes of an input.
+-- What `json` writes for an input.
 abbrev pub json_text : Bool → List ℕ → List ℕ
 json_text payload input = text_of_pieces (records_work json_work) (json_pieces payload input)
 

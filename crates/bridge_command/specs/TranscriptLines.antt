@@ -1,4 +1,4 @@
--- What the lines of a transcript tell: those that `run`, `replay` and `listen` write, and between them what came (own).
+-- What the lines of a transcript mean: those that `run`, `replay` and `listen` write, and those that the launcher adds about what came (own).
 use Rattle.std.specs.Prelude.{◌≡◌, ◌≤◌, ℕ, true, ◌^◌, ◌==◌, ◌||◌, nat_lt, Bool, if◌then◌else◌, List, [], ◌∷◌, length, codes, Option, Some, None, Result, Ok, Err}
 use Rattle.std.specs.Str.{bytes_eq}
 use Rattle.bridge_pictures.specs.LadderLines.{without_colon}
@@ -21,7 +21,7 @@ use Rattle.bridge_command.specs.declared.capture.lines.TranscriptLine.{Transcrip
 use Rattle.bridge_command.specs.declared.capture.lines.TranscriptLine.TheVariants as told
 use Rattle.bridge_command.specs.declared.capture.records.Travel.{Travel}
 
--- from a side to the other, where an index was found
+-- from a side to the other, if an index was found
 abbrev pub with_index : Side → Result ℕ Flaw → Result Travel Flaw
 with_index from (Ok index) = Ok (travel_of from)
 with_index from (Err flaw) = Err flaw
@@ -43,17 +43,16 @@ frame_name_read (letter ∷ index) =
     else if letter == 115 then frame_of_sender Server index
     else to_peer_named (peer_of (letter ∷ index))
 
--- the first words of the lines of ends and of flows; that of a refusal is none, so what was refused is refused again
+-- the first words of the lines of ends and of flows; the word of a refusal is not one of them, so what was refused is refused again
 abbrev pub is_other : List ℕ → Bool
 is_other word = (bytes_eq word (codes "end") || bytes_eq word (codes "flows")) || bytes_eq word (codes "flow")
 
--- the number of a line, where one was found
+-- the number of a line, if one was found
 abbrev pub numbered : Result ℕ Flaw → Result TranscriptLine Flaw
 numbered (Ok number) = Ok (told.Number number)
 numbered (Err flaw) = Err flaw
 
--- the first word of a line that tells no frame: the number of the line that was answered, with a colon in a replay, or
--- one of a few words
+-- the first word of a line without a frame: the number of the line that was answered, with a colon in a replay, or one of a few words
 abbrev pub told_first : List ℕ → Result TranscriptLine Flaw
 told_first word =
     if bytes_eq word (codes "open:") then Ok told.Opened
@@ -78,22 +77,22 @@ abbrev pub came_by : Option Peer → WordsLeft → Result TranscriptLine LineFau
 came_by (Some peer) left = frame_came (Some peer) (later left)
 came_by None left = frame_came None left
 
--- the same, by the first word
+-- what follows the first word of a line
 abbrev pub came_said : WordsLeft → Result TranscriptLine LineFault
 came_said left = came_by (peer_of (first_word left).text) left
 
--- the words of a line: after `sent` and `came` those of a frame, and otherwise the first word alone tells
+-- the words of a line: after `sent` and `came` those of a frame, and otherwise the first word alone counts
 abbrev pub line_said : WordsLeft → Result TranscriptLine LineFault
 line_said left =
     if bytes_eq (first_word left).text (codes "sent") then sent_said (later left)
     else if bytes_eq (first_word left).text (codes "came") then came_said (later left)
     else word_read told_first (first_word left)
 
--- a frame that came has at most 2,044 bytes, and at least eight where its checksum is to be set
+-- a frame that came has at most 2,044 bytes, and at least eight if its checksum is to be set
 abbrev pub CanArrive : TranscriptLine → Type 0
 CanArrive (told.Came peer frame) = (length frame.bytes ≤ 2044) × (frame.seal ≡ true → 8 ≤ length frame.bytes)
 CanArrive _ = Unit {0}
 
--- what a line tells, without its newline; an empty line and a comment tell nothing
+-- what a line means, without its newline; an empty line and a comment mean nothing
 abbrev pub told_of_line : List ℕ → Result (Option TranscriptLine) LineFault
 told_of_line line = line_read line_said line

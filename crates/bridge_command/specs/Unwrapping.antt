@@ -1,4 +1,4 @@
--- What `unwrap` makes of a capture, classic or pcapng: a classic one of raw IP, a record for each record (own).
+-- What `unwrap` makes from a capture, classic or pcapng: a classic one of raw IP, with a record for each record (own).
 use Rattle.std.specs.Prelude.{ℕ, ◌-◌, ◌==◌, Bool, false, is_some, if◌then◌else◌, List, [], ◌∷◌, length, map, codes, Option, Some, None}
 use Rattle.capture_reader.specs.Records.{RecordParts}
 use Rattle.bridge_records.specs.Writing.{RawRecord, file_header, raw_record}
@@ -8,7 +8,7 @@ use Rattle.bridge_records.specs.declared.pieces.fault.PieceFault.TheVariants as 
 use Rattle.bridge_records.specs.Recording.{RecordWork, RecordsState, records_of, records_work}
 use Rattle.bridge_links.specs.Links.{ip_bytes}
 
--- What the beginning of a capture or a record makes: the file header, or a record.
+-- A part of the output: the file header, for the beginning of a capture, or a record.
 pub data CapturePart : Type 0 where
   Begins : (nanos : Bool) → CapturePart
   Holds : (r : RawRecord) → CapturePart
@@ -18,20 +18,19 @@ abbrev pub capture_part_text : CapturePart → List ℕ
 capture_part_text (Begins nanos) = file_header nanos
 capture_part_text (Holds r) = raw_record r
 
--- how many bytes the packet of a record had: those of the record without what does not stand in the packet, and none
--- where there is no packet
+-- how many bytes the packet of a record had: those of the record without those outside the packet, and none if there is no packet
 abbrev pub original_of : RecordParts → List ℕ → ℕ
 original_of e ip = if length ip == 0 then 0 else e.original - (length e.bytes - length ip)
 
--- the record of the packet that is found in one, at the same time; an empty one where there is none
+-- the record of the packet that is found in a record, at the same time; an empty one if there is none
 abbrev pub unwrapped_of : RecordParts → List ℕ → RawRecord
 unwrapped_of e ip = record { seconds = e.seconds; fraction = e.fraction; original = original_of e ip; bytes = ip }
 
--- the record that is made of one
+-- the record that is made from a record
 unfoldable pub unwrapped_entry : RecordParts → RawRecord
 unwrapped_entry e = unwrapped_of e (ip_bytes e.link e.bytes)
 
--- what is made of such records: the file header, and a record for each
+-- the output for such records: the file header, and a record for each
 abbrev pub unwrapped_parts : Bool → List RecordParts → List CapturePart
 unwrapped_parts nanos entries = Begins nanos ∷ map (λ e. Holds (unwrapped_entry e)) entries
 
@@ -60,7 +59,7 @@ abbrev pub unwrap_closing : Bool → Option PieceFault → List ℕ
 unwrap_closing untold None = untold_header untold
 unwrap_closing untold (Some fault) = []
 
--- What `unwrap` makes of the records of a capture; it keeps nothing of them.
+-- What `unwrap` does with the records of a capture. It keeps nothing of them.
 abbrev pub unwrap_work : RecordWork CapturePart (Unit {0})
 unwrap_work = record {
   begun = λ job nanos. record { deed = Some (Begins nanos); next = job };
@@ -69,11 +68,11 @@ unwrap_work = record {
   closing = λ job untold records end. unwrap_closing untold end;
 }
 
--- what the pieces of an input come to
+-- the result of the pieces of an input
 abbrev pub unwrapped_pieces : List ℕ → PiecesResult CapturePart (RecordsState (Unit {0}))
 unwrapped_pieces input = records_of unwrap_work tt input
 
--- What `unwrap` writes of an input.
+-- What `unwrap` writes for an input.
 abbrev pub unwrapped_text : List ℕ → List ℕ
 unwrapped_text input = text_of_pieces (records_work unwrap_work) (unwrapped_pieces input)
 

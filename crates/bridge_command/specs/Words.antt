@@ -42,7 +42,7 @@ numbered_picture picture (Some flow) = if flow == 0 then None else Some (form.Fl
 abbrev pub flow_picture : Picture → List ℕ → Option BridgeForm
 flow_picture picture text = numbered_picture picture (number_below (2 ^ 64) text)
 
--- the same from one word, `--flow=F`
+-- the picture of the flow in one word, `--flow=F`
 abbrev pub joined_picture : Picture → List ℕ → Option BridgeForm
 joined_picture picture word =
     if nat_lt (length word) 7 || not (bytes_eq (take 7 word) (codes "--flow=")) then None else flow_picture picture (drop 7 word)
@@ -93,7 +93,7 @@ abbrev pub has_bridge_settings : List (String Global) → Bool
 has_bridge_settings [] = false
 has_bridge_settings (first ∷ words) = has_settings_after first
 
--- The line that answers all other words.
+-- The line that is written for all other words.
 abbrev pub bridge_usage : List ℕ
 bridge_usage = codes "usage: dccp_bridge capture | unwrap | seed --seed S --events E | seeds --first F --seeds N --events E | frames --flow F --side server|client | json [--payload] | ladder [--flow F] | windows [--flow F]\n"
 

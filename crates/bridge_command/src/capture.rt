@@ -1,7 +1,7 @@
-//! `capture`: the frames that a transcript tells, as a capture (own; the savefile format of libpcap).
+//! `capture`: the frames of a transcript, as a capture (own; the savefile format of libpcap).
 //!
-//! It reads what `run` and `replay` write. Each frame goes out as it stands, after an IPv4 header (RFC 791, section
-//! 3.1); nothing here looks into a frame.
+//! It reads what `run` and `replay` write. Each frame goes out as it is, after an IPv4 header (RFC 791, section 3.1);
+//! nothing here looks into a frame.
 
 mod capturing;
 mod laws;

@@ -1,4 +1,5 @@
-//! What of a capture was skipped, and why the input of a form is refused, told apart from the output (own).
+//! What was skipped of a capture, and why the input of a form is refused. This is reported separately from the output
+//! (own).
 ghost use Rattle.std.specs.Prelude.{◌≡◌, ◌++◌, Some, OnOk};
 ghost use Rattle.tool_text.specs.Ends.{IsWritten, SinkFails};
 ghost use Rattle.bridge_command.specs.Complaints as spec;
@@ -13,22 +14,22 @@ use tool_text::{JobEnd, LineRefusal, put, put_counted, put_refusal};
 /// Why the input of a form is refused.
 #[derive(Clone, Copy)]
 pub(crate) enum Complaint {
-    /// A line of it is.
+    /// A line of it is refused.
     Line(LineRefusal),
     /// The capture has a fault.
     Capture(CaptureRefusal),
 }
 
-/// What a form tells apart from its output.
+/// What a form reports besides its output.
 #[derive(Clone, Copy)]
 pub(crate) struct Remarks {
-    /// What of a capture was skipped.
+    /// What was skipped of a capture.
     pub(crate) skips: Skips,
     /// Why its input is refused, if it is.
     pub(crate) complaint: Option<Complaint>,
 }
 
-/// How a form ended, and what it tells.
+/// How a form ended, and what it reports.
 #[derive(Clone, Copy)]
 pub(crate) struct FormEnd {
     pub(crate) end: JobEnd,
@@ -55,7 +56,7 @@ fn capture_complaint(refusal: Option<CaptureRefusal>) -> Option<Complaint>
     }
 }
 
-/// What is told of lines.
+/// What is reported about lines.
 pub(crate) fn line_said(refusal: Option<LineRefusal>) -> Remarks
     ensures { result ≡ spec.line_said refusal }
 {
@@ -65,7 +66,7 @@ pub(crate) fn line_said(refusal: Option<LineRefusal>) -> Remarks
     }
 }
 
-/// What is told of a capture.
+/// What is reported about a capture.
 pub(crate) fn capture_said(refusal: Option<CaptureRefusal>, skips: Skips) -> Remarks
     ensures { result ≡ spec.capture_said refusal skips }
 {
@@ -75,7 +76,7 @@ pub(crate) fn capture_said(refusal: Option<CaptureRefusal>, skips: Skips) -> Rem
     }
 }
 
-// Puts the line of what of one kind was skipped, if anything was.
+// Puts the line about what was skipped of one kind, if anything was.
 #[tactic(auto, unfolding(crate::specs::Complaints::tally_line))]
 fn put_tally(text: &mut Vec<u8>, name: &[u8], tally: Tally) -> Result<(), NoMemory>
     ensures { OnOk result (text.new.items ≡ text.old.items ++ spec.tally_line name.now tally) }
@@ -90,7 +91,7 @@ fn put_tally(text: &mut Vec<u8>, name: &[u8], tally: Tally) -> Result<(), NoMemo
     put(text, b"\n")
 }
 
-// Puts the lines of what was skipped.
+// Puts the lines about what was skipped.
 #[tactic(auto, unfolding(crate::specs::Complaints::skips_text))]
 fn put_skips(text: &mut Vec<u8>, skips: &Skips) -> Result<(), NoMemory>
     ensures { OnOk result (text.new.items ≡ text.old.items ++ spec.skips_text skips.now) }
@@ -122,7 +123,7 @@ fn put_complaint(text: &mut Vec<u8>, complaint: &Complaint) -> Result<(), NoMemo
     }
 }
 
-// Puts that line, or nothing where it is not.
+// Puts that line, or nothing if the input is not refused.
 fn put_refused(text: &mut Vec<u8>, complaint: &Option<Complaint>) -> Result<(), NoMemory>
     ensures { OnOk result (text.new.items ≡ text.old.items ++ spec.complaint_text complaint.now) }
 {
@@ -132,7 +133,7 @@ fn put_refused(text: &mut Vec<u8>, complaint: &Option<Complaint>) -> Result<(), 
     }
 }
 
-// Puts all that a form tells.
+// Puts all that a form reports.
 fn put_said(text: &mut Vec<u8>, said: &Remarks) -> Result<(), NoMemory>
     ensures { OnOk result (text.new.items ≡ text.old.items ++ spec.said_text said.now) }
 {
@@ -147,8 +148,8 @@ fn write_lines<E: Sink>(errors: &mut E, lines: &[u8])
     let _ = write_all(errors, lines);
 }
 
-/// Tells what was skipped, and why an input is refused, as far as the sink takes it, and answers how the form ended; or
-/// Memory, where none was left for the lines.
+/// Reports what was skipped and why an input is refused, as far as the sink takes it. Returns how the form ended, or
+/// Memory if no memory was left for the lines.
 pub(crate) fn tell_said<E: Sink>(alloc: Global, ended: FormEnd, errors: &mut E) -> JobEnd
     ensures end { spec.EndsAs ended.end result }
     ensures said { spec.OnAnswer result (IsWritten (spec.said_text ended.said) (E.taken errors.old) (E.taken errors.new) (SinkFails E.faults E.empty_takes errors.old errors.new)) }

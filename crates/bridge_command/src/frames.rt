@@ -1,8 +1,8 @@
 //! `frames`: the packets of a captured flow that go to one of its sides, as lines of a replay (own; the fields by RFC
 //! 4340, section 5).
 //!
-//! It reads captures as `unwrap` does and shows packets as `show` does. It plays nothing: what the usual end of that
-//! side answers to the frames, `replay` tells.
+//! `frames` reads captures as `unwrap` does and shows packets as `show` does. It plays nothing: `replay` shows what the
+//! usual end of that side answers to the frames.
 
 mod framing;
 mod laws;

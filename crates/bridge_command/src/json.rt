@@ -1,8 +1,8 @@
 //! `json`: the records of a capture, classic or pcapng, as objects of JSON, one a line (RFC 8259; the members' names
 //! are own).
 //!
-//! It tells what is on the wire of each packet of DCCP, and why a record holds none. Objects are built and written by
-//! `serde_json`, whose members are in the order of their names.
+//! `json` writes what is on the wire of each packet of DCCP, and why a record holds none. Objects are built and written
+//! by `serde_json`, whose members are in the order of their names.
 
 mod judging;
 mod laws;

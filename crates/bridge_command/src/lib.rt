@@ -1,9 +1,9 @@
-//! The second tool's one call: what its words ask for, done over a source and a sink (own).
+//! The second tool as one call: it does what the words ask for, over a source and a sink (own).
 //!
-//! It makes captures of what the tool tells, captures of raw IP, lines and objects of captures, pictures, and the
-//! schedules and the objects of seeds, which it runs as `campaign` does. It opens no file, socket or clock, and reads
-//! and writes nothing but the source and the sink that it is lent. It takes memory for words and text, for a table of
-//! flows, for the values of a record and for the run of a seed.
+//! The tool makes captures from what the first tool writes; captures of raw IP, lines, objects and pictures from
+//! captures; and the schedules and the objects of seeds, which it runs as `campaign` does. It opens no file, socket or
+//! clock, and reads and writes only the source and the sinks that it is lent. It takes memory for words and text, for a
+//! table of flows, for the values of a record and for the run of a seed.
 #![tactic(auto)]
 
 mod capture;

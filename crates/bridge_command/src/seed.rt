@@ -1,8 +1,8 @@
 //! `seed`: the schedule of a campaign's seed, as `run` reads it (own).
 //!
-//! An event is drawn by how many frames there are, so the seed is run as `campaign` runs it, and each event is written
-//! as a line. A schedule holds all that a seed draws: its ends are the usual ones except for their initial sequence
-//! numbers, so no list and no offer is said.
+//! Which event is drawn depends on how many frames there are, so the seed is run as `campaign` runs it, and each event
+//! is written as a line. A schedule holds all that a seed draws: its ends are the usual ones except for their initial
+//! sequence numbers, so it has no line for a list or an offer.
 
 mod laws;
 mod telling;

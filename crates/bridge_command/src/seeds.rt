@@ -1,4 +1,4 @@
-//! `seeds`: what a campaign counts of each of its seeds, and what the seed's run came to (own).
+//! `seeds`: the counts of each seed of a campaign, and the result of its run (own).
 
 mod telling;
 

@@ -1,4 +1,4 @@
-//! The second tool's one call: a form of its words over a source and a sink.
+//! The second tool as one call: a form of its words over a source and a sink.
 ghost use Rattle.std.specs.Prelude.{◌≡◌, ◌⊎◌, ℕ, List, [], Some, None, false, true};
 ghost use Rattle.dccp_io.specs.Counts.{Rose};
 ghost use Rattle.bridge_command.specs.Forms.{OnBridgeInput, OnBridgeRead, bridge_accepted, bridge_reads_past, bridge_said, bridge_text, flow_picture_accepted, flow_picture_refusal, flow_picture_skips, flow_picture_text, has_input, is_bridge_refused, is_flow_picture_faulty, picture_accepted, picture_refusal, picture_refused, picture_text};
@@ -20,19 +20,19 @@ use dccp_io::{Sink, Source, write_all};
 use std::alloc::Global;
 use tool_text::{JobEnd, LinesEnd, Status};
 
-/// Does what the words ask for (own), those after the program's name. `capture` reads what `run` or `replay` wrote, and
-/// writes a classic capture with a record for each frame that was sent. `unwrap` reads a capture, classic or pcapng, of
-/// any of fifteen link types, and writes a classic one of raw IP, record for record. `seed` reads nothing, and writes
-/// the schedule of a campaign's seed; so does `seeds`, which writes an object for each of many seeds. `frames` reads a
-/// capture as `unwrap` does, and writes lines of `replay` for the packets of a flow that go to a side; and `json`
-/// writes an object for each record. `ladder` draws what `run` or `replay` wrote, and with a flow the packets of that
-/// flow in a capture. `windows` draws the windows of a schedule that it plays, and with a flow those of that flow in a
-/// capture.
+/// Does what the words after the program's name ask for (own). `capture` reads what `run` or `replay` wrote, and writes
+/// a classic capture with a record for each frame that was sent. `unwrap` reads a capture, classic or pcapng, of any of
+/// fifteen link types, and writes a classic one of raw IP, record for record. `seed` reads nothing, and writes the
+/// schedule of a campaign's seed; `seeds` reads nothing either, and writes an object for each of many seeds. `frames`
+/// reads a capture as `unwrap` does, and writes lines of `replay` for the packets of a flow that go to a side; and
+/// `json` writes an object for each record. `ladder` draws what `run` or `replay` wrote, and with a flow the packets of
+/// that flow in a capture. `windows` draws the windows of a schedule that it plays, and with a flow those of that flow
+/// in a capture.
 ///
-/// Words are judged first; after that the first refusal met in the order of reading decides. With status 0 or 1 the
-/// output is that of the whole input, with status 3, 4 or 5 a front of it. What of a capture was skipped, and why an
-/// input is refused, goes to `errors`, and so does the usage line. The clauses on the output speak of a source that
-/// tells its bytes and a sink that tells what it took.
+/// Words are judged first; after that the first refusal in the order of reading decides. With status 0 or 1 the output
+/// is that of the whole input, with status 3, 4 or 5 a prefix of it. What was skipped of a capture, and why an input is
+/// refused, is written to `errors`, and so is the usage line. The clauses on the output are about a source whose bytes,
+/// and a sink whose text, contracts can see.
 pub fn bridge<S: Source, K: Sink, E: Sink>(
     alloc: Global,
     words: &[String],
@@ -40,8 +40,8 @@ pub fn bridge<S: Source, K: Sink, E: Sink>(
     output: &mut K,
     errors: &mut E,
 ) -> Status
-    // Words that are none of the forms come to the usage line, as far as the sink for errors takes it. Where no memory
-    // was left to read settings, nothing is told. The output stays as it was.
+    // For words that are none of the forms, the usage line is written, as far as the sink for errors takes it. If no
+    // memory was left to read settings, nothing is written. The output stays as it was.
     ensures words { result ≡ Status.Words → asked_form words.now ≡ None }
     ensures others { asked_form words.now ≡ None
         → (result ≡ Status.Words) ⊎ ((result ≡ Status.Memory) × (has_bridge_settings words.now ≡ true)) }
@@ -50,19 +50,19 @@ pub fn bridge<S: Source, K: Sink, E: Sink>(
         → IsWritten bridge_usage (E.taken errors.old) (E.taken errors.new) (SinkFails E.faults E.empty_takes errors.old errors.new) }
     ensures silent { asked_form words.now ≡ None → output.new ≡ output.old }
 
-    // What each form that reads its input writes and how it ends, and how far it had read where it refuses it.
+    // For each form that reads its input: what it writes, how it ends, and how far it had read if it refuses the input.
     ensures answers { OnBridgeInput words.now (S.left input.old) (λ form bytes.
         OnJobEnd result (λ end. Answers (bridge_text form bytes) (is_bridge_refused form bytes) end (S.left input.new) (K.taken output.old) (K.taken output.new))) }
     ensures past { OnBridgeInput words.now (S.left input.old) (λ form bytes.
         OnJobEnd result (λ end. StopsWithin (bridge_reads_past form) (bridge_accepted form bytes) bytes end (S.left input.new))) }
 
-    // With an answer, what of a capture was skipped, and why the input is refused, is told on the sink for errors, as
-    // far as it takes that: a line for each kind, and one for the refusal, or nothing.
+    // With an answer, what was skipped of a capture, and why the input is refused, is written to the sink for errors,
+    // as far as it takes that: a line for each kind, and one for the refusal, or nothing.
     ensures said { OnBridgeInput words.now (S.left input.old) (λ form bytes.
         OnJobEnd result (λ end. OnAnswer end (IsWritten (said_text (bridge_said form bytes)) (E.taken errors.old) (E.taken errors.new)
         (SinkFails E.faults E.empty_takes errors.old errors.new)))) }
 
-    // What a form owes that reads nothing: the same as of an empty input. And why any form ended.
+    // For a form that reads nothing, the same holds as for an empty input. And how any form ends.
     ensures told { OnAsked words.now (λ form. has_input form ≡ false
         → OnJobEnd result (λ end. Answers (bridge_text form []) false end (Some []) (K.taken output.old) (K.taken output.new))) }
     ensures form_unread { (form : BridgeForm) → asked_form words.now ≡ Some form → has_input form ≡ false → input.new ≡ input.old }
@@ -76,7 +76,7 @@ pub fn bridge<S: Source, K: Sink, E: Sink>(
     }
 }
 
-// Does what a form asks for, and tells what was skipped, and why its input is refused, if it is.
+// Does what a form asks for, and reports what was skipped, and why its input is refused, if it is.
 fn perform_and_tell<S: Source, K: Sink, E: Sink>(
     alloc: Global,
     form: BridgeForm,

@@ -1,8 +1,8 @@
 //! `unwrap`: a capture of any of fifteen link types, classic or pcapng, as a classic one of raw IP, record for record
 //! (own).
 //!
-//! It finds the IP packet of a record after the header of its link and up to two VLAN tags, and looks no further into
-//! it.
+//! `unwrap` finds the IP packet of a record after the header of its link and up to two VLAN tags, and looks no further
+//! into it.
 
 mod laws;
 mod unwrapping;

@@ -10,19 +10,19 @@ use tool_text::{is_text, number_up_to};
 /// A job of the second tool (own).
 #[derive(Clone, Copy)]
 pub enum BridgeForm {
-    /// `capture` makes a capture of the frames that `run` or `replay` told.
+    /// `capture` makes a capture of the frames that `run` or `replay` wrote.
     Capture,
-    /// `unwrap` makes a capture of raw IP of one of another link type.
+    /// `unwrap` makes a capture of raw IP from one of another link type.
     Unwrap,
-    /// `seed` makes a schedule of a campaign's seed.
+    /// `seed` makes a schedule from a campaign's seed.
     Seed(SeedRun),
-    /// `seeds` makes an object of JSON of each seed of a campaign.
+    /// `seeds` makes an object of JSON for each seed of a campaign.
     Seeds(SeedRange),
-    /// `frames` makes lines of `replay` of the packets of a flow that go to a side.
+    /// `frames` makes lines of `replay` from the packets of a flow that go to a side.
     Frames(FlowSide),
-    /// `json` makes an object of JSON of each record of a capture, and `json --payload` with the bytes of data.
+    /// `json` makes an object of JSON for each record of a capture, and `json --payload` includes the bytes of data.
     Json(bool),
-    /// `ladder` draws what `run` or `replay` told, and `windows` a schedule.
+    /// `ladder` draws what `run` or `replay` wrote, and `windows` draws a schedule.
     Picture(Picture),
     /// `ladder --flow F` and `windows --flow F` draw the flow of this number of a capture, from 1.
     FlowPicture(Picture, u64),
@@ -40,7 +40,7 @@ pub enum Picture {
 // A flow and its number as one word.
 const FLOW: &[u8] = b"--flow=";
 
-/// The line that answers words which are none of the forms (own). It names all forms.
+/// The line that answers words that are none of the forms (own). It names all forms.
 pub const USAGE: &[u8] =
     b"usage: dccp_bridge capture | unwrap | seed --seed S --events E | seeds --first F --seeds N --events E | frames --flow F --side server|client | json [--payload] | ladder [--flow F] | windows [--flow F]\n";
 
@@ -110,7 +110,7 @@ fn flow_picture(picture: Picture, text: &[u8]) -> Option<BridgeForm>
     Some(BridgeForm::FlowPicture(picture, flow))
 }
 
-// The same from one word, `--flow=F`.
+// The picture of the flow in one word, `--flow=F`.
 fn joined_picture(picture: Picture, word: &[u8]) -> Option<BridgeForm>
     ensures value { result ≡ joined_picture picture word.now }
     ensures within { IfSome result IsBridgeFormWithinBounds }
@@ -172,9 +172,9 @@ fn form_after(
     Ok(None)
 }
 
-/// The job that these words ask for, those after the program's name, or None where they are none of the forms (own).
-/// NoMemory comes only for words after `seed`, `seeds` and `frames`, whose settings are read by a command of `clap`,
-/// and then says nothing of them.
+/// The job that the words after the program's name ask for, or None if they are none of the forms (own). NoMemory comes
+/// only for words after `seed`, `seeds` and `frames`, whose settings are read by a command of `clap`; it says nothing
+/// about the words.
 pub fn form_of(alloc: Global, words: &[String]) -> Result<Option<BridgeForm>, NoMemory>
     ensures value { IfOk result (λ form. form ≡ asked_form words.now) }
     ensures within { IfOk result (λ form. IfSome form IsBridgeFormWithinBounds) }

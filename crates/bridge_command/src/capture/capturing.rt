@@ -19,7 +19,7 @@ use tool_jobs::arriving;
 use tool_text::{JobEnd, LineError, LineJob, LinesEnd, run_lines_apart};
 use world_events::Side;
 
-/// When frames are sent: the number of the line that was answered last, as seconds; and whose end it is that is alone.
+/// When frames are sent: the number of the line that was answered last, as seconds. And the side of a single end.
 #[derive(Drop)]
 pub(crate) struct Clock {
     pub(crate) seconds: u32,
@@ -37,7 +37,7 @@ impl Clock {
         }
     }
 
-    // The way of a frame that came: from a peer of a listener, or to an end alone from the other side.
+    // The way of a frame that came: from a peer of a listener, or from the other side to a single end.
     fn travel(&self, peer: Option<Peer>) -> Travel
         ensures { result ≡ travel_in self.now peer }
     {
@@ -47,7 +47,7 @@ impl Clock {
         }
     }
 
-    // Puts the record of a frame that comes, its checksum set where its line says so.
+    // Puts the record of a frame that comes, with its checksum set if its line says so.
     fn put_arrival(
         &self,
         text: &mut Vec<u8>,
@@ -111,12 +111,12 @@ impl LineJob for Clock {
 
 /// Makes a capture of a transcript's frames (own): it reads the lines of `input` one by one, and writes to `output` a
 /// classic capture of link type 101 with a record for each line `sent NAME HEX`, in their order: an IPv4 packet between
-/// the addresses of the usual ends, or of the listener and a peer. A line `came`, which the launcher puts after the
-/// answer to a line of the input, has a record too: the frame of that line. Its time is the number of the line that was
-/// answered with it, in seconds. Records go out in blocks, and before more of the input is asked for. Where a line is
-/// refused, its refusal is answered, and the records before it are written. With status 0 or 1 the output is that of
-/// the whole input, with another a front of it. Read comes where the source failed, Write where the sink did, and
-/// Memory where no memory was left.
+/// the addresses of the usual ends, or of the listener and a peer. A line `came`, which the launcher writes after the
+/// answer to a line of the input, has a record too: the frame of that line. The time of a record is the number of the
+/// line that its frame answered, in seconds. Records are written in blocks, and before more of the input is asked for.
+/// If a line is refused, its refusal is returned, and the records before it are written. With status 0 or 1 the output
+/// is that of the whole input, with another a prefix of it. Read means that the source failed, Write that the sink did,
+/// and Memory that no memory was left.
 pub(crate) fn capture_frames<S: Source, K: Sink>(
     alloc: Global,
     input: &mut S,

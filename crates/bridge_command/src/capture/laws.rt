@@ -9,9 +9,9 @@ ghost use Rattle.bridge_command.specs.Capturing.{frames_capture, transcript_gone
 ghost use Rattle.bridge_command.specs.FrameReading.{FitsFrame, travels, whole_frame};
 ghost use Rattle.bridge_command.specs.FrameRecords.{TimedFrame, frame_record, ip_packet, travel_of};
 
-/// The capture that is made of a transcript, be it refused or not, is that of the records of its frames, and a reader
-/// of captures finds these, in their order, whole and under their times, and nothing else, where they have no more
-/// bytes than count (the savefile format of libpcap).
+/// The capture that is made of a transcript, refused or not, is that of the records of its frames. If these have no
+/// more bytes than a reader of captures takes, it finds them, in their order, whole and with their times, and nothing
+/// else (the savefile format of libpcap).
 pub fn a_capture_has_each_frame()
     ensures made { (input : List ℕ)
         → frames_capture input ≡ capture_of false (map frame_record (transcript_gone input).deeds) }
@@ -20,13 +20,13 @@ pub fn a_capture_has_each_frame()
         → captured (frames_capture input) ≡ record { records = raw_entries false 0 (map frame_record (transcript_gone input).deeds); end = None } }
 {}
 
-/// A record's bytes are IPv4 that carries the frame whole, between the addresses of its way (RFC 791, section 3.1). So
-/// `show` tells of each record the packet that the frame decodes to, and the verdict on its checksum.
+/// A record's bytes are an IPv4 packet that carries the frame whole, between the addresses of its way (RFC 791, section
+/// 3.1). So `show` writes for each record the packet that the frame decodes to, and the verdict on its checksum.
 pub fn a_frame_stands_in_its_record()
     ensures { (f : TimedFrame) → length f.frame ≤ 2044 → carried 101 (ip_packet f.travel f.frame) ≡ Some (whole_frame f) }
 {}
 
-/// The addresses are those of the usual ends, between which the checksums of their frames are made.
+/// The addresses are those of the usual ends, which the checksums of their frames count.
 pub fn addresses_are_the_usual_ones()
     ensures client { travels (travel_of Client) ≡ to_server }
     ensures server { travels (travel_of Server) ≡ to_client }

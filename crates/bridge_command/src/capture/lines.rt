@@ -1,4 +1,4 @@
-//! What a line of a transcript tells.
+//! What a line of a transcript says.
 ghost use Rattle.std.specs.Prelude.{◌≡◌, IfErr, IfOk, IfSome};
 ghost use Rattle.tool_text.specs.Left.{left_of};
 ghost use Rattle.bridge_command.specs.TranscriptLines.{CanArrive, came_said, frame_came, frame_name_read, frame_of_sender, to_peer_named, is_other, line_said, sent_said, told_first, told_of_line};
@@ -21,12 +21,12 @@ const INDICES: u64 = 1 << 47;
 // The numbers of lines are below this.
 const LINE_NUMBERS: u64 = 1 << 32;
 
-/// What a line of a transcript tells. A frame's bytes are decoded where they are put.
+/// What a line of a transcript means. A frame's bytes are decoded where they are put.
 #[derive(Drop)]
 pub(crate) enum TranscriptLine<'a> {
-    /// No frame: it is the line of an end or of flows.
+    /// There is no frame: it is the line of an end or of flows.
     Other,
-    /// An end alone opened.
+    /// A single end opened.
     Opened,
     /// The input's line of this number was answered.
     Number(u32),
@@ -89,7 +89,7 @@ fn is_other(word: &[u8]) -> bool
     is_text(word, b"end") || is_text(word, b"flows") || is_text(word, b"flow")
 }
 
-// What the first word of a line tells that is no line of a frame.
+// What the first word of a line without a frame means.
 fn told_first<'a>(word: &'a [u8]) -> Result<TranscriptLine<'a>, Flaw>
     ensures value { result ≡ told_first word.now }
     ensures within { IfErr result (λ flaw. flaw.place ≡ 0) }
@@ -107,7 +107,7 @@ fn told_first<'a>(word: &'a [u8]) -> Result<TranscriptLine<'a>, Flaw>
     Ok(TranscriptLine::Number(number as u32))
 }
 
-// The first word of a line that is no line of a frame.
+// The first word of a line without a frame.
 struct HeadWord;
 
 impl<'a> WordKind<'a> for HeadWord {
@@ -126,7 +126,7 @@ fn sent<'a>(words: &mut Words<'a>) -> Result<TranscriptLine<'a>, LineFault>
 {
     let all = *words;
     let (travel, (digits, ())) = <(SentName, (Hex, ()))>::read(words)?;
-    // A packet that is longer has no frame.
+    // A longer packet has no frame.
     if MOST_FRAME_BYTES < digits.len() {
         return Err(LineFault {
             column: all.column_of(1),
@@ -181,9 +181,9 @@ impl<'a> WordRow<'a> for TranscriptWords {
     }
 }
 
-/// What a line of a transcript tells, without its newline, or None where it is empty or a comment; or the first of its
+/// What a line of a transcript means, without its newline, or None if it is empty or a comment. Or the first of its
 /// faults: NotText, then Missing, UnknownWord, BadNumber and BadHex, word by word from the left, then Trailing, and
-/// then FrameTooLong at the bytes of a frame that has more than 2,044. After `came` they are those of a replay's line.
+/// then FrameTooLong for a frame of more than 2,044 bytes. After `came` the faults are those of a replay's line.
 pub(crate) fn told_of_line(line: &[u8]) -> Result<Option<TranscriptLine<'_>>, LineFault>
     ensures value { result ≡ told_of_line line.now }
     ensures arrives { IfOk result (λ said. IfSome said CanArrive) }

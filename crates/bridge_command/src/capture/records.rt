@@ -20,13 +20,13 @@ const CLIENT: u32 = 167_772_161;
 
 const SERVER: u32 = 167_772_162;
 
-// Version 4, a header of five words, and no service that is asked for.
+// Version 4, a header of five words, and no type of service.
 const IP_BEGIN: [u8; 2] = [0x45, 0];
 
 // No identification, Don't Fragment, 64 hops, and DCCP.
 const IP_MIDDLE: [u8; 6] = [0, 0, 0x40, 0, 64, 33];
 
-// The sum of all words of the header but the length, the checksum and the addresses.
+// The sum of all words of the header except the length, the checksum and the addresses.
 const SUM_ALONE: u32 = 0xc521;
 
 /// The way of a frame: the addresses that it travels between, as numbers.
@@ -103,7 +103,7 @@ fn words_of(address: u32) -> u32
     address / 0x1_0000 + address % 0x1_0000
 }
 
-// The checksum of the header of an IPv4 packet of so many bytes.
+// The checksum of the header of an IPv4 packet of this many bytes.
 #[tactic(auto, using(crate::proofs::HeaderSum::header_sum))]
 fn ip_checksum(travel: Travel, total: u16) -> u16
     requires { total ≤ 2068 }
@@ -131,7 +131,7 @@ fn put_addresses(text: &mut Vec<u8>, travel: Travel) -> Result<(), NoMemory>
     put(text, &travel.to.to_be_bytes())
 }
 
-// Puts the header of an IPv4 packet of so many bytes.
+// Puts the header of an IPv4 packet of this many bytes.
 fn put_ip_header(text: &mut Vec<u8>, travel: Travel, total: u16) -> Result<(), NoMemory>
     requires { total ≤ 2068 }
     ensures { OnOk result (text.new.items ≡ text.old.items ++ spec.ip_header travel total) }
@@ -140,7 +140,7 @@ fn put_ip_header(text: &mut Vec<u8>, travel: Travel, total: u16) -> Result<(), N
     put_addresses(text, travel)
 }
 
-// The header of the record of a frame that is there as digits.
+// The header of the record of a frame that is given as digits.
 #[tactic(auto, using(crate::proofs::FrameCarrying::packet_length))]
 fn frame_header(seconds: u32, travel: Travel, frame: &Digits<'_>) -> RecordHeader
     ensures { result ≡ header_for (spec.frame_record (record { seconds = seconds; travel = travel; frame = frame.now })) }
@@ -169,7 +169,7 @@ fn frame_header_of(seconds: u32, travel: Travel, frame: &[u8]) -> RecordHeader
     }
 }
 
-// Puts the bytes of digits: they are decoded in the text.
+// Puts the bytes that these digits are: they are decoded in the text.
 fn put_digits(text: &mut Vec<u8>, digits: &Digits<'_>) -> Result<(), NoMemory>
     ensures { OnOk result (text.new.items ≡ text.old.items ++ digits.now) }
 {
@@ -179,7 +179,7 @@ fn put_digits(text: &mut Vec<u8>, digits: &Digits<'_>) -> Result<(), NoMemory>
     Ok(())
 }
 
-// Puts the packet of a frame that is there as digits.
+// Puts the packet of a frame that is given as digits.
 #[tactic(auto, unfolding(crate::specs::FrameRecords::ip_packet))]
 fn put_packet(text: &mut Vec<u8>, travel: Travel, frame: &Digits<'_>) -> Result<(), NoMemory>
     ensures { OnOk result (text.new.items ≡ text.old.items ++ spec.ip_packet travel frame.now) }
@@ -198,8 +198,8 @@ fn put_packet_of(text: &mut Vec<u8>, travel: Travel, frame: &[u8]) -> Result<(),
     put(text, frame)
 }
 
-/// Puts the record of a frame that was sent this way at this time: a packet of IPv4, captured whole. NoMemory comes
-/// where no memory was left, here and below.
+/// Puts the record of a frame that was sent this way at this time: a packet of IPv4, captured whole. NoMemory comes if
+/// no memory was left, here and below.
 pub(crate) fn put_record(
     text: &mut Vec<u8>,
     seconds: u32,

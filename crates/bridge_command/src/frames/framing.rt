@@ -27,16 +27,16 @@ use std::alloc::Global;
 use std::marker::Model;
 use world_events::Side;
 
-/// What is known of the flow, once a packet of it came.
+/// What is known of the flow after its first packet.
 #[derive(Clone, Copy)]
 pub(crate) struct KnownFlow {
-    /// Its ends.
+    /// The ends of the flow.
     pub(crate) ends: FlowEnds,
-    /// The captured end's initial number, once it sent one of 48 bits.
+    /// The captured end's initial number, after it sent a number of 48 bits.
     pub(crate) initial: Option<Seq48>,
 }
 
-/// A capture while the packets of a flow are sought.
+/// A capture while the packets of a flow are looked for.
 #[derive(Drop)]
 pub(crate) struct FlowSearch {
     /// The number of the flow.
@@ -51,7 +51,7 @@ pub(crate) struct FlowSearch {
     pub(crate) known: Option<KnownFlow>,
 }
 
-// The captured end's initial number, once it sent this one.
+// The captured end's initial number, after it sent this number.
 fn initial_by(initial: Option<Seq48>, number: Number) -> Option<Seq48>
     ensures { result ≡ spec.initial_by initial number }
 {
@@ -83,7 +83,7 @@ fn goes_to(side: Side, from: Side) -> bool
     }
 }
 
-// What is known of the flow, once the captured end sent this number.
+// What is known of the flow, after the captured end sent this number.
 fn known_number(known: &KnownFlow, number: Number) -> KnownFlow
     ensures { result ≡ spec.known_number known.now number }
 {
@@ -196,7 +196,7 @@ impl FlowSearch {
     }
 }
 
-/// A capture while the packets of a flow are sought, with the memory for those that are taken out of extension
+/// A capture while the packets of a flow are looked for, with the memory for those that are separated from extension
 /// headers.
 #[derive(Drop)]
 pub(crate) struct FramesJob {
@@ -239,20 +239,20 @@ impl RecordJob for FramesJob {
     }
 }
 
-/// Makes lines of a replay of a captured flow (own): for each packet of the flow of this number, as `show` numbers
-/// flows, that goes to this side, the line that `show` has for it as a comment, and then `seal` and a frame: the packet
-/// with the ports, the Service Code and, where it acknowledges, the number that `replay`'s end of that side would find
-/// in it. An acknowledgement number is as far above that end's initial number as it was above the captured end's, which
-/// is the first number of 48 bits that this sent (RFC 4340, section 7.2); Ack Vectors count from it and stay, as
-/// sequence numbers, options and data do. Whose packet comes first in the flow is its client, unless that is a Response
-/// or a CloseReq. A packet without a frame has a comment in its place: NumberUnknown where the captured end sent no
-/// such number before it, FrameTooLong where it has more than 2,044 bytes. Where no packet of the flow goes to the
-/// side, nothing is written. The frames show what the end answers to these packets, and no other connection.
+/// Makes lines of a replay from a captured flow (own). Each packet of the flow of this number that goes to this side
+/// has two lines: a comment with the line that `show` has for it, and then `seal` and a frame. Flows are numbered as
+/// `show` numbers them. The frame is the packet with the ports, the Service Code and the acknowledgement number that
+/// `replay`'s end of that side expects. An acknowledgement number is as far above that end's initial number as it was
+/// above the captured end's, which is the first number of 48 bits that the captured end sent (RFC 4340, section 7.2).
+/// Ack Vectors count from it and stay the same, as sequence numbers, options and data do. The sender of the flow's
+/// first packet is its client, unless that packet is a Response or a CloseReq. A packet without a frame has a comment
+/// in its place: NumberUnknown if the captured end sent no such number before it, FrameTooLong if it has more than
+/// 2,044 bytes. If no packet of the flow goes to the side, nothing is written. The frames show what the end answers to
+/// these packets; they do not repeat the captured connection.
 ///
-/// The capture is one that `unwrap` takes, and its packets are found as by `show` after `unwrap`. Input comes where it
-/// has a fault, which is answered. With status 0 or 1 the output is that of the whole input,
-/// with another a front of it. Read comes where the source failed, Write where the sink did, and Memory where no memory
-/// was left.
+/// The capture is one that `unwrap` takes, and its packets are those that `show` finds after `unwrap`. Input means that
+/// it has a fault, which is returned. With status 0 or 1 the output is that of the whole input, with another a prefix
+/// of it. Read means that the source failed, Write that the sink did, and Memory that no memory was left.
 pub(crate) fn frame_flow<S: Source, K: Sink>(
     alloc: Global,
     flow: u64,

@@ -12,15 +12,15 @@ ghost use Rattle.bridge_command.specs.FrameLines.{comment_line, no_frame_words, 
 ghost use Rattle.bridge_command.specs.Mapping.{moved_ack, moved_frame, moved_header, usual_end};
 ghost use Rattle.bridge_command.specs.declared.frames.mapping.NoFrame.{NoFrame};
 
-/// Of any input of bytes, `replay` reads both lines of each packet that `frames` writes: the first, the line of `show`,
-/// says nothing, and the second is the packet's frame, whose checksum is to be set, or says nothing where it has none
-/// (own).
+/// For any input of bytes, `replay` reads both lines of each packet that `frames` writes. The first, the line of
+/// `show`, means nothing; the second is the packet's frame, whose checksum is to be set, or means nothing if it has
+/// none (own).
 pub fn each_packet_reads_back()
     ensures { (flow : ℕ) (side : Side) (input : List ℕ) → IsBytes input → All IsReadBack (frames_pieces flow side input).deeds }
 {}
 
-/// A frame's words are read by `replay` as that frame, whose checksum is to be set. The comment on a packet without
-/// one, and that with a line of `show`, whose bytes are text, are read as lines that say nothing (own).
+/// A frame's words are read by `replay` as that frame, whose checksum is to be set. The comment on a packet without a
+/// frame, and the comment with a line of `show`, whose bytes are text, are read as lines that mean nothing (own).
 pub fn lines_read_back()
     ensures frame { (bytes : List ℕ) → IsBytes bytes → 8 ≤ length bytes → length bytes ≤ 2044
         → read_frame (sealed_words bytes) ≡ Ok (Some (record { seal = true; bytes = bytes })) }
@@ -31,9 +31,9 @@ pub fn lines_read_back()
         → read_frame (take 4096 (codes "# " ++ front)) ≡ Ok None }
 {}
 
-/// A frame is the captured packet with the usual end's ports and Service Code, and its acknowledgement number moved: it
-/// decodes to these fields, and to the same sequence number, options and data (RFC 4340, section 5). It has 12 to 2,044
-/// bytes.
+/// A frame is the captured packet with the usual end's ports and Service Code, and with its acknowledgement number
+/// moved: it decodes to these fields, and to the same sequence number, options and data (RFC 4340, section 5). It has
+/// 12 to 2,044 bytes.
 pub fn a_frame_is_its_packet()
     ensures packet { (side : Side) (initial : ℕ) (packet : Parts) (bytes : List ℕ) → HeaderFits packet.header
         → IsTrue (is_valid packet.header)

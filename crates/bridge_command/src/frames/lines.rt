@@ -17,7 +17,7 @@ use tool_text::{put, put_hex, put_named};
 // The most bytes of a line of a replay.
 const LINE: usize = 4096;
 
-// Cuts a comment that begins there to what a line has room for, without its newline.
+// Cuts a comment that begins at this place to what a line has room for, without its newline.
 #[tactic(auto, using(crate::proofs::Commenting::comment_kept, crate::proofs::Commenting::comment_cut))]
 fn cut_comment(text: &mut Vec<u8>, start: usize) -> Result<(), NoMemory>
     requires { start ≤ length text.old.items }
@@ -115,7 +115,7 @@ fn put_frame_with(
     put_in_parts(text, header, options, payload, front.bytes())
 }
 
-// Puts the line of a packet, where the captured end's initial number is known.
+// Puts the line of a packet, given the captured end's initial number, if it is known.
 fn put_moved(
     text: &mut Vec<u8>,
     end: &UsualEnd,

@@ -9,7 +9,7 @@ use seq_circle::{Seq24, Seq48};
 use tool_jobs::role_of;
 use world_events::Side;
 
-/// What of an end's configuration the packets that it gets depend on (own).
+/// The part of an end's configuration that the packets to it depend on (own).
 #[derive(Clone, Copy)]
 pub(crate) struct UsualEnd {
     /// Their destination port.
@@ -25,14 +25,14 @@ pub(crate) struct UsualEnd {
 /// Why a packet has no frame in a replay (own).
 #[derive(Clone, Copy)]
 pub(crate) enum NoFrame {
-    /// It has an acknowledgement number, and the captured end sent no number of 48 bits before it, from which that
-    /// could be counted.
+    /// It has an acknowledgement number, and before it the captured end sent no number of 48 bits from which that could
+    /// be counted.
     NumberUnknown,
     /// It has more than 2,044 bytes.
     FrameTooLong,
 }
 
-/// The end that `replay` plays for a side.
+/// The end of a side that `replay` plays.
 pub(crate) fn usual_end(side: Side) -> UsualEnd
     ensures { result ≡ usual_end side }
 {

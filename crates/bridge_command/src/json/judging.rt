@@ -22,7 +22,8 @@ use std::alloc::Global;
 use std::marker::Model;
 use tool_text::malformed_name;
 
-/// Tells each record. Contracts see whether the bytes of data are asked for, and the flows that were seen.
+/// The job that writes each record. Contracts see whether the bytes of data are asked for, and the flows that were
+/// seen.
 #[derive(Drop)]
 pub(crate) struct JsonJob {
     alloc: Global,
@@ -67,7 +68,7 @@ fn nanoseconds_of(nanos: bool, fraction: u32) -> u64
     }
 }
 
-// Puts a record's number, its time, its link type, how many bytes it had there, and how many were captured.
+// Puts a record's number, its time, its link type, how many bytes it had on the link, and how many were captured.
 fn put_stamp(object: &mut Object, item: &Record<'_>) -> Result<(), NoMemory>
     ensures { OnOk result (members_seen object.new ≡ with_stamp (entry_of item.now) (members_seen object.old)) }
 {

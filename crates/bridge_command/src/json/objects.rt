@@ -19,7 +19,7 @@ pub(crate) struct Object {
     pub(crate) members: Map<String, Value>,
 }
 
-/// Values while a list of them is put together.
+/// A list of values while it is put together.
 #[derive(Drop)]
 pub(crate) struct Items {
     pub(crate) alloc: Global,
@@ -57,7 +57,7 @@ impl Items {
         }
     }
 
-    // Puts a value at the list's end. NoMemory comes where no memory was left, here and below.
+    // Puts a value at the list's end. NoMemory comes if no memory was left, here and below.
     #[tactic(auto, using(crate::proofs::JsonLists::listed_so))]
     fn push(&mut self, value: Value) -> Result<(), NoMemory>
         ensures { OnOk result (listed self.new ≡ listed self.old ++ view value ∷ []) }
@@ -138,7 +138,7 @@ impl Object {
         self.put(name, Value::Array(items.values))
     }
 
-    /// Puts the object, which has no number that is a float, on a line of its own at the text's end.
+    /// Puts the object, whose numbers are no floats, on a separate line at the text's end.
     pub(crate) fn put_line(self, text: &mut Vec<u8>) -> Result<(), NoMemory>
         requires { members_have_float (members_seen self) ≡ false }
         ensures { OnOk result (text.new.items ≡ text.old.items ++ object_line (members_seen self)) }

@@ -19,7 +19,7 @@ const ACK_RATIO: u8 = 5;
 // How many bytes a Timestamp has.
 const TIMESTAMP_SIZE: usize = 4;
 
-// The first option type that is a CCID's own (RFC 4340, section 10.3).
+// The first option type that belongs to a CCID (RFC 4340, section 10.3).
 const FIRST_OF_CCIDS: u8 = 128;
 
 // The name of an option, as `show` has it.
@@ -46,7 +46,7 @@ fn option_name(kind: u8) -> &'static str
     }
 }
 
-// A number of bytes, the most significant first; of more than eight the last eight count.
+// The number that bytes are, the most significant first; of more than eight, the last eight count.
 fn number_of(bytes: &[u8]) -> u64
     ensures { result ≡ spec.number_after 0 bytes.now }
 {
@@ -57,7 +57,7 @@ fn number_of(bytes: &[u8]) -> u64
     number
 }
 
-// Puts bytes in hexadecimal, where there are any.
+// Puts bytes in hexadecimal, if there are any.
 fn put_bytes(object: &mut Object, bytes: &[u8]) -> Result<(), NoMemory>
     ensures { OnOk result (members_seen object.new ≡ spec.with_bytes bytes.now (members_seen object.old)) }
 {
@@ -88,7 +88,7 @@ fn push_values(items: &mut Items, feature: u8, values: &[u8]) -> Result<(), NoMe
     push_numbers(items, values)
 }
 
-// Puts a feature's number and values, where there is one.
+// Puts a feature's number and values, if there is one.
 fn put_feature(object: &mut Object, body: &[u8]) -> Result<(), NoMemory>
     ensures { OnOk result (members_seen object.new ≡ spec.with_feature body.now (members_seen object.old)) }
 {
@@ -175,7 +175,7 @@ fn put_echo(object: &mut Object, body: &[u8]) -> Result<(), NoMemory>
     object.number("elapsed", number_of(&body[TIMESTAMP_SIZE..]))
 }
 
-// The name of the number that an option of this type is, where it has so many bytes.
+// The name of the number that an option of this type is, if it has this many bytes.
 fn number_name(kind: u8, size: usize) -> Option<&'static str>
     ensures { option_map (λ name. name.now) result ≡ spec.number_name kind size }
 {
@@ -188,7 +188,7 @@ fn number_name(kind: u8, size: usize) -> Option<&'static str>
     }
 }
 
-// Puts such a number, and else the bytes.
+// Puts such a number, or else the bytes.
 fn put_number_or_bytes(object: &mut Object, kind: u8, body: &[u8]) -> Result<(), NoMemory>
     ensures { OnOk result (members_seen object.new ≡ spec.with_number_or_bytes (spec.number_name kind (length body.now)) body.now (members_seen object.old)) }
 {

@@ -78,7 +78,7 @@ fn ecn_of(pseudo: &Pseudo, ip: &[u8]) -> u8
     }
 }
 
-/// Puts what an IP packet says of one of DCCP: the hops that are left, its ECN field, and the addresses.
+/// Puts what an IP packet says of its DCCP packet: the hops that are left, its ECN field, and the addresses.
 pub(crate) fn put_ip(object: &mut Object, there: &Datagram<'_>, ip: &[u8]) -> Result<(), NoMemory>
     ensures { OnOk result (members_seen object.new ≡ with_ip (carried_by there.now) ip.now (members_seen object.old)) }
 {
@@ -151,7 +151,7 @@ fn put_code(object: &mut Object, code: u8, detail: [u8; 3]) -> Result<(), NoMemo
     object.number("data_3", u64::from(detail[2]))
 }
 
-// Puts what a type alone carries.
+// Puts what only packets of this type carry.
 fn put_kind(object: &mut Object, kind: &Kind) -> Result<(), NoMemory>
     ensures { OnOk result (members_seen object.new ≡ with_kind kind.now (members_seen object.old)) }
 {
@@ -186,7 +186,7 @@ fn put_options(object: &mut Object, packet: &Packet<'_>) -> Result<(), NoMemory>
     object.list("options", items)
 }
 
-// The verdict on the checksum; it is unknown where bytes are missing.
+// The verdict on the checksum; it is unknown if bytes are missing.
 #[tactic(auto, using(crate::proofs::ObjectTexts::verdict_is_text))]
 fn verdict_name(there: &Datagram<'_>) -> &'static [u8]
     requires low { 8 ≤ length there.now.bytes.now }
@@ -210,7 +210,7 @@ fn put_rest(object: &mut Object, there: &Datagram<'_>, packet: &Packet<'_>) -> R
     object.text("verdict", verdict_name(there))
 }
 
-// Puts the bytes of data in hexadecimal, where they are asked for.
+// Puts the bytes of data in hexadecimal, if they are asked for.
 fn put_payload(object: &mut Object, payload: bool, bytes: &[u8]) -> Result<(), NoMemory>
     ensures { OnOk result (members_seen object.new ≡ with_payload payload bytes.now (members_seen object.old)) }
 {
@@ -221,7 +221,7 @@ fn put_payload(object: &mut Object, payload: bool, bytes: &[u8]) -> Result<(), N
     object.string("payload", &text)
 }
 
-/// Puts a packet: its ports, its header, what its type alone carries, its options, and the rest.
+/// Puts a packet: its ports, its header, what only its type carries, its options, and the rest.
 pub(crate) fn put_packet(
     object: &mut Object,
     payload: bool,

@@ -10,15 +10,15 @@ use bridge_links::{Upper, read_u16, upper_of};
 pub(crate) enum Skip {
     /// No IP packet was found after the header of its link.
     NotIp,
-    /// The IP header, or extension headers of IPv6, were not captured whole; or these are more than 16.
+    /// The IP header or extension headers of IPv6 were not captured whole, or there are more than 16 extension headers.
     ShortHeader,
-    /// The lengths in the IP header contradict each other, or the headers that follow.
+    /// The lengths in the IP header contradict each other or the headers that follow.
     BadHeader,
-    /// IP carries another protocol, or IPv6 an extension header that is not passed over.
+    /// IP carries another protocol, or IPv6 carries an extension header that is not skipped.
     NotDccp,
     /// A fragment of DCCP.
     Fragment,
-    /// Bytes of DCCP are missing to the IP length, and those that are there are no packet.
+    /// Fewer bytes of DCCP were captured than the IP length says, and those that are there are no packet.
     CutShort,
 }
 
@@ -28,7 +28,7 @@ const IPV6_HEADER: usize = 40;
 
 const FRAGMENT_PLACE: usize = 6;
 
-// The low 14 bits of the fragment's field: More Fragments and the offset.
+// The low 14 bits of the field for fragments: More Fragments and the offset.
 const FRAGMENT: u16 = 1 << 14;
 
 const DCCP: u8 = 33;
@@ -54,14 +54,14 @@ fn v4_skip(bytes: &[u8]) -> Skip
     Skip::BadHeader
 }
 
-/// The byte that is there, or 0 where none does.
+/// The byte at this place, or 0 if there is none.
 pub(crate) fn byte_at(bytes: &[u8], place: usize) -> u8
     ensures { result ≡ slice_index bytes.now place }
 {
     bytes.get(place).copied().unwrap_or(0)
 }
 
-// Why no DCCP was found after the extension headers of IPv6, of which this is the next.
+// Why no DCCP was found after the extension headers of IPv6, if this header follows them.
 fn upper_skip(upper: &Upper, bytes: &[u8]) -> Skip
     ensures { result ≡ spec.upper_skip upper.now bytes.now }
 {
@@ -98,7 +98,7 @@ pub(crate) fn ip_skip(bytes: &[u8]) -> Skip
     }
 }
 
-/// The word for it.
+/// The word for why.
 pub(crate) fn skip_name(skip: Skip) -> &'static [u8]
     ensures { result.now ≡ skip_name skip }
 {

@@ -15,7 +15,7 @@ use dccp_io::{Sink, Source};
 use seq_circle::NoMemory;
 use std::alloc::Global;
 
-// The object of a fault, after so many records.
+// The object of a fault, after this many records.
 #[tactic(auto, unfolding(crate::specs::Telling::fault_members), using(crate::proofs::ObjectTexts::fault_is_text))]
 fn fault_object(alloc: Global, records: u64, fault: PieceFault) -> Result<Object, NoMemory>
     ensures { IfOk result (λ o. members_seen o ≡ fault_members records fault) }
@@ -26,7 +26,7 @@ fn fault_object(alloc: Global, records: u64, fault: PieceFault) -> Result<Object
     Ok(object)
 }
 
-// Puts its line.
+// Puts the line of a fault.
 fn put_fault(
     alloc: Global,
     text: &mut Vec<u8>,
@@ -67,22 +67,22 @@ impl RecordJob for JsonJob {
     }
 }
 
-/// Tells the records of a capture (RFC 8259; the names of members are own): for each an object on a line of its own,
+/// Writes the records of a capture (RFC 8259; the names of members are own): for each an object on a separate line,
 /// without spaces, its members in the order of their names. The capture is a classic one or a pcapng file, of any of
 /// the link types that `unwrap` knows.
 ///
 /// Each object has `record` (its number, from 1), `seconds` and `nanoseconds` (its time), `link` (the link type),
-/// `length` (its bytes on the link) and `captured` (those that are there). Where the IP packet in it carries a packet
-/// of DCCP, as `show` finds one, it has `flow` (its number), `ttl`, `ecn`, `source`, `destination` and their ports,
-/// `type`, `sequence`, `short` (whether numbers have 24 bits), `ccval`, `cscov`, `checksum`, `options` as objects,
-/// `data` (the bytes of data that are there) and `verdict` (that on the checksum); as the type has them
-/// `acknowledgement`, `service_code`, `reset_code` and `data_1` to `data_3`; and with `payload` its bytes of data. Else
-/// it has `malformed`, why whole bytes of DCCP are no packet, with `ttl`, `ecn` and the addresses; or `skipped`, why it
-/// holds none.
+/// `length` (its bytes on the link) and `captured` (those that are there). If the IP packet in the record carries a
+/// packet of DCCP, as `show` finds one, the object has `flow` (its number), `ttl`, `ecn`, `source`, `destination` and
+/// their ports, `type`, `sequence`, `short` (whether numbers have 24 bits), `ccval`, `cscov`, `checksum`, `options` as
+/// objects, `data` (how many bytes of data are there) and `verdict` (on the checksum). If its type has them, it has
+/// `acknowledgement`, `service_code`, `reset_code` and `data_1` to `data_3`; and if they are asked for, `payload`, its
+/// bytes of data. Otherwise it has `malformed`, why whole bytes of DCCP are no packet, with `ttl`, `ecn` and the
+/// addresses; or `skipped`, why the record holds none.
 ///
-/// Input comes where the capture has a fault, and then an object with `fault` and `records`, how many came before it,
-/// is the last. With status 0 or 1 the output is that of the whole input, with another a front of it. Read comes where
-/// the source failed, Write where the sink did, and Memory where no memory was left.
+/// Input means that the capture has a fault. Then the last object has `fault` and `records`, how many records came
+/// before it. With status 0 or 1 the output is that of the whole input, with another a prefix of it. Read means that
+/// the source failed, Write that the sink did, and Memory that no memory was left.
 pub(crate) fn json_records<S: Source, K: Sink>(
     alloc: Global,
     payload: bool,

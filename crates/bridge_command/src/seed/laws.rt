@@ -1,4 +1,4 @@
-//! What the schedule of a seed is to `run`.
+//! What the schedule of a seed is for `run`.
 ghost use Rattle.std.specs.Prelude.{◌≡◌, ◌++◌, ℕ, ◌≤◌, flat_map, false};
 ghost use Rattle.bridge_command.specs.Counted.{counted_report};
 ghost use Rattle.bridge_command.specs.Schedule.{seed_text};
@@ -10,10 +10,10 @@ ghost use Rattle.tool_jobs.specs.WorldLines.{end_lines};
 
 use fault_campaign::drawn_events_happen;
 
-/// The schedule of a seed is the run that `campaign` counts for it, of as many events as a campaign may ask for (own).
-/// `run` refuses none of its lines; it begins with the same two ends, the same events happen to them one after the
-/// other, and it ends with the same world. So its text is that of this run, with its end lines, and what is counted of
-/// its events, its frames and its features is the report of the seed.
+/// The schedule of a seed is the run that `campaign` counts for it, with any number of events that a campaign may ask
+/// for (own). `run` refuses none of its lines. It begins with the same two ends, the same events happen to them one
+/// after the other, and it ends with the same world. So the text of `run` is that of this run, with its end lines, and
+/// what is counted of its events, its frames and its features is the report of the seed.
 pub fn a_schedule_is_the_run_of_its_seed()
     ensures accepted { (seed events : ℕ) → 1 ≤ events → events ≤ 4096 → is_refused (seed_text seed events) ≡ false }
     ensures first { (seed events : ℕ) → 1 ≤ events → events ≤ 4096

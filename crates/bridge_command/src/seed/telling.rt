@@ -36,7 +36,7 @@ fn put_event_line(text: &mut Vec<u8>, event: &Event) -> Result<(), NoMemory>
     put(text, b"\n")
 }
 
-// Puts the lines of so many further events of a run, which they happen to.
+// Puts the lines of this many further events of a run, and lets them happen.
 fn put_next_events(text: &mut Vec<u8>, run: &mut OngoingRun, more: u32) -> Result<(), NoMemory>
     requires few { size run.old.report + 2 * more < 2 ^ 62 }
     ensures { OnOk result (text.new.items ≡ text.old.items ++ event_lines (next_events more run.old)) }
@@ -49,7 +49,7 @@ fn put_next_events(text: &mut Vec<u8>, run: &mut OngoingRun, more: u32) -> Resul
     Ok(())
 }
 
-// Puts the lines of so many events of a run that begins, the opening of the connection first.
+// Puts the lines of this many events of a run that begins, the opening of the connection first.
 fn put_begun_events(text: &mut Vec<u8>, run: &mut OngoingRun, events: u32) -> Result<(), NoMemory>
     requires some { 1 ≤ events }
     requires few { size run.old.report + 2 * events < 2 ^ 62 }
@@ -80,9 +80,9 @@ fn text_of_seed(alloc: Global, seed: u64, events: u32) -> Result<Vec<u8>, NoMemo
     Ok(text)
 }
 
-/// Writes the schedule of a campaign's seed with so many events (own): the initial sequence numbers of both ends, and
-/// the events, a line each. It reads nothing and refuses nothing, so it owes what a form owes of an empty input that is
-/// accepted. Write comes where the sink failed, and Memory where no memory was left; then nothing is written.
+/// Writes the schedule of a campaign's seed with this many events (own): the initial sequence numbers of both ends, and
+/// the events, a line each. It reads nothing and refuses nothing, so its contract is that of a form with an empty input
+/// that is accepted. Write means that the sink failed, and Memory that no memory was left; then nothing is written.
 pub(crate) fn tell_seed<K: Sink>(alloc: Global, seed: u64, events: u32, output: &mut K) -> JobEnd
     requires events { 1 ≤ events × events ≤ 4096 }
     ensures told { Answers (seed_text seed events) false result (Some []) (K.taken output.old) (K.taken output.new) }

@@ -13,7 +13,7 @@ use std::alloc::Global;
 use tool_forms::SeedRange;
 use tool_text::JobEnd;
 
-// So many features are settled where all are.
+// The number of settled features if all are settled.
 const FEATURES: u64 = 18;
 
 fn seed_state(report: &Report) -> &'static [u8]
@@ -51,7 +51,7 @@ impl Object {
         self.number("sent_reset", report.sent_reset)
     }
 
-    // Puts the calls that were refused, the features that are settled, and what the run came to.
+    // Puts the calls that were refused, the features that are settled, and the result of the run.
     #[tactic(auto, using(crate::proofs::SeedObjects::state_is_text))]
     fn state(&mut self, report: &Report) -> Result<(), NoMemory>
         ensures { OnOk result (members_seen self.new ≡ with_state report.now (members_seen self.old)) }
@@ -74,7 +74,7 @@ fn seed_object(alloc: Global, seed: u64, report: &Report) -> Result<Object, NoMe
     Ok(object)
 }
 
-// Puts the line of a seed, which is run.
+// Runs a seed, and puts its line.
 fn put_seed(alloc: Global, text: &mut Vec<u8>, events: u32, seed: u64) -> Result<(), NoMemory>
     requires events { 1 ≤ events × events ≤ 4096 }
     ensures { OnOk result (text.new.items ≡ text.old.items ++ seed_line events seed) }
@@ -99,9 +99,9 @@ fn text_of_seeds(alloc: Global, range: SeedRange) -> Result<Vec<u8>, NoMemory>
     Ok(text)
 }
 
-/// Writes an object for each of these seeds, on a line of its own: what `campaign` counts of it, and what its run came
-/// to (own). It reads nothing and refuses nothing, so it owes what a form owes of an empty input that is accepted.
-/// Write comes where the sink failed, and Memory where no memory was left; then nothing is written.
+/// Writes an object for each of these seeds, on a separate line: what `campaign` counts of it, and how its run ended
+/// (own). It reads nothing and refuses nothing, so its contract is that of a form with an empty input that is accepted.
+/// Write means that the sink failed, and Memory that no memory was left; then nothing is written.
 pub(crate) fn tell_seeds<K: Sink>(alloc: Global, range: SeedRange, output: &mut K) -> JobEnd
     requires { IsRangeWithinBounds range }
     ensures told { Answers (seeds_text range) false result (Some []) (K.taken output.old) (K.taken output.new) }

@@ -19,7 +19,7 @@ use std::alloc::Global;
 use std::marker::Model;
 use tool_text::put;
 
-/// Makes of each record one of raw IP. Contracts see nothing of it.
+/// The job that makes a record of raw IP from each record. Contracts see nothing of it.
 #[derive(Drop)]
 pub(crate) struct UnwrapJob {
     alloc: Global,
@@ -44,7 +44,7 @@ fn original_of(item: &Record<'_>, ip: &[u8]) -> u32
     item.original.saturating_sub(taken)
 }
 
-// The header of the record of this packet, which is found in one.
+// The header of the record of this packet, which was found in another record.
 fn header_of(item: &Record<'_>, ip: &[u8]) -> RecordHeader
     requires part { length ip.now ≤ length item.now.bytes.now }
     requires short { length item.now.bytes.now ≤ 262144 }
@@ -58,7 +58,7 @@ fn header_of(item: &Record<'_>, ip: &[u8]) -> RecordHeader
     }
 }
 
-// Puts the record of this packet, which is found in one.
+// Puts the record of this packet, which was found in another record.
 fn put_record_of(text: &mut Vec<u8>, item: &Record<'_>, ip: &[u8]) -> Result<(), NoMemory>
     requires part { length ip.now ≤ length item.now.bytes.now }
     requires short { length item.now.bytes.now ≤ 262144 }
@@ -70,7 +70,7 @@ fn put_record_of(text: &mut Vec<u8>, item: &Record<'_>, ip: &[u8]) -> Result<(),
     Ok(())
 }
 
-// Puts the record that is made of one.
+// Puts the record that is made from this one.
 #[tactic(auto, unfolding(crate::specs::Unwrapping::unwrapped_entry))]
 fn put_unwrapped(alloc: Global, text: &mut Vec<u8>, item: &Record<'_>) -> Result<(), NoMemory>
     requires { length item.now.bytes.now ≤ 262144 }
@@ -134,17 +134,17 @@ impl RecordJob for UnwrapJob {
     }
 }
 
-/// Makes of a capture a classic one of raw IP (own): a record for each record, at the same time, with the IP packet
-/// that is found after the header of its link, up to two VLAN tags, PPPoE and up to 16 labels of MPLS, without the
-/// extension headers of IPv6 that lead to DCCP; or empty where there is none. Of link types it knows 0 and 108, which
-/// begin with an address family, 1 (Ethernet), 9 (PPP), 12 and 101 (raw IP), 105 and 127 (802.11), 113 and 276 (the
-/// "any" device of Linux), 219 (MPLS), 228 (IPv4), 229 (IPv6), 239 (packets that Linux's packet filter logged) and 258
-/// (records of macOS with others in them). The capture is a classic one or a pcapng file, whose records are its Enhanced
-/// Packet Blocks, and its Simple Packet Blocks at time 0. Fractions of a second are nanoseconds where six digits cannot
-/// write the parts in which the first interface of a pcapng file counts time.
+/// Makes a classic capture of raw IP from a capture (own). It has a record for each record, at the same time, with the
+/// IP packet that is found after the header of the link, up to two VLAN tags, PPPoE and up to 16 labels of MPLS,
+/// without the extension headers of IPv6 that lead to DCCP; the record is empty if there is none. The link types that
+/// it knows are 0 and 108, which begin with an address family, 1 (Ethernet), 9 (PPP), 12 and 101 (raw IP), 105 and 127
+/// (802.11), 113 and 276 (the "any" device of Linux), 219 (MPLS), 228 (IPv4), 229 (IPv6), 239 (packets that Linux's
+/// packet filter logged) and 258 (records of macOS with others in them). The capture is a classic one or a pcapng file,
+/// whose records are its Enhanced Packet Blocks, and its Simple Packet Blocks at time 0. Fractions of a second are
+/// nanoseconds if six digits are too few for the units in which the first interface of a pcapng file counts time.
 ///
-/// Input comes where the capture has a fault, which is answered. With status 0 or 1 the output is that of the whole
-/// input, with another a front of it. Read comes where the source failed, Write where the sink did, and Memory where no
+/// Input means that the capture has a fault, which is returned. With status 0 or 1 the output is that of the whole
+/// input, with another a prefix of it. Read means that the source failed, Write that the sink did, and Memory that no
 /// memory was left.
 pub(crate) fn unwrap_capture<S: Source, K: Sink>(
     alloc: Global,

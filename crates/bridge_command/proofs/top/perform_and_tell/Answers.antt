@@ -1,4 +1,4 @@
--- The call ends as its form did, or for want of memory.
+-- The call ends as its form did, or for lack of memory.
 use Rattle.std.proofs.Common.{subst}
 use Rattle.tool_text.specs.Ends.{IsWritten, SinkFails}
 use Rattle.bridge_command.specs.Complaints.{said_text}
