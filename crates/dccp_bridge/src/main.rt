@@ -1,5 +1,5 @@
-//! The second program: its one call over standard input, output and error, with its status as the exit status. A crate
-//! is a library or a program, so the call itself is in bridge_command.
+//! The second program: the call of bridge_command over standard input, output and error, with its status as the exit
+//! status. A crate is either a library or a program, so the call itself is not here.
 #![tactic(auto)]
 
 use bridge_command::{Status, bridge};
@@ -17,12 +17,12 @@ fn main(rt: HostRuntime) -> ExitCode {
         Ok(words) => bridge(rt.alloc(), &words, &mut input, &mut output, &mut errors),
         Err(AllocError) => Status::Memory,
     };
-    // Where it cannot be told, the status tells it.
+    // If this cannot be written, the status shows it.
     let _ = write_all(&mut errors, told(status));
     code(status)
 }
 
-// What standard error tells of a status with which the output is a front at most (own).
+// What standard error says about a status with which the output may be only a prefix (own).
 fn told(status: Status) -> &'static [u8] {
     match status {
         Status::Read => b"dccp_bridge: the input could not be read\n",
@@ -32,7 +32,7 @@ fn told(status: Status) -> &'static [u8] {
     }
 }
 
-// The words after the program's name. Where one is not UTF-8 they are none of the forms, and neither are no words.
+// The words after the program's name. If one is not UTF-8, they are none of the forms; nor is a call without words.
 fn words_of(rt: &HostRuntime) -> Result<Vec<String>, AllocError> {
     let mut words = Vec::new(rt.alloc());
     let all = match env::args(rt) {
