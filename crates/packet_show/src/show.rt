@@ -127,8 +127,7 @@ fn show_all<S: Source + Drop, K: Sink>(
         (SinkFailed (K.faults output.old) (K.faults output.new) (K.empty_takes output.old) (K.empty_takes output.new)) }
 {
     loop {
-        let is_due = !captures.holds_next();
-        if flush_if_due(is_due, output, text).is_err() {
+        if flush_if_due(!captures.holds_next(), output, text).is_err() {
             return JobEnd::Write;
         }
         match show_next(captures, tally, text) {
