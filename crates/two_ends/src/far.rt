@@ -14,7 +14,7 @@ use validity_windows::Marks;
 
 // Looks first at the end, and then at the frame's numbers, which are known: so a frame is decoded only if one of them
 // is far.
-#[tactic(auto, using(crate::proofs::Forms::none_is_far, crate::proofs::Forms::form_decides))]
+#[tactic(auto, using(crate::proofs::OfWorlds::Forms::none_is_far, crate::proofs::OfWorlds::Forms::form_decides))]
 pub(crate) fn is_far_frame<C: Congestion>(end: &Endpoint<C>, frame: &SentFrame) -> bool
     ensures { result ≡ is_far_frame end.now.state frame.now }
 {

@@ -90,7 +90,7 @@ impl<C: Congestion> HalfWorld<C> {
 
     // One call of the end, which processes no number. All memory that the step may need is taken before the end is
     // touched.
-    #[tactic(auto, using(crate::proofs::Processing::calls_process_nothing))]
+    #[tactic(auto, using(crate::proofs::OfWorlds::Processing::calls_process_nothing))]
     pub(crate) fn call(&mut self, call: UserCall<'_>) -> Result<Seen, WorldFault>
         ensures ok { IfOk result (λ seen. record { after = self.new; seen = seen } ≡ controlled_half_steps C.control self.old None (input_said call.entry (said_by C.control self.old.congestion))) }
         ensures there { result ≢ Err WorldFault.NoSuchFrame }
@@ -162,7 +162,7 @@ fn act<C: Congestion>(end: &mut Endpoint<C>, call: UserCall<'_>, out: &mut Outbo
 }
 
 // Keeps the number of a packet that was taken, in memory that was taken before.
-#[tactic(auto, using(crate::proofs::Processing::nothing_more))]
+#[tactic(auto, using(crate::proofs::OfWorlds::Processing::nothing_more))]
 fn keep_number(processed: &mut Vec<u64>, taken: bool, number: Seq48)
     requires { HasPlace processed.old }
     ensures { processed.new.items ≡ processed.old.items ++ number_if taken (Some number) }
