@@ -53,7 +53,7 @@ impl WorldWindows {
     }
 
     // Draws the column of an event that left this world.
-    #[tactic(auto, unfolding(crate::specs::PlayState::world_drawn))]
+    #[tactic(auto, unfolding(crate::specs::Played::world_drawn))]
     fn draw(&mut self, world: &World<Kinds>, said: &[u8]) -> Result<(), NoMemory>
         ensures { OnOk result (self.new ≡ spec.world_drawn self.old world.now said.now) }
     {
@@ -67,7 +67,7 @@ impl WorldWindows {
     }
 
     // Puts the picture after the last event, which left this world.
-    #[tactic(auto, unfolding(crate::specs::PlayState::world_picture))]
+    #[tactic(auto, unfolding(crate::specs::Played::world_picture))]
     fn put_picture(&self, text: &mut Vec<u8>, world: &World<Kinds>) -> Result<(), NoMemory>
         ensures { OnOk result (text.new.items ≡ text.old.items ++ spec.world_picture self.now world.now) }
     {
@@ -109,7 +109,7 @@ impl PlayedWindows {
     }
 
     // Draws what a line said: an event that took place has a column.
-    #[tactic(auto, unfolding(crate::specs::PlayState::event_drawn))]
+    #[tactic(auto, unfolding(crate::specs::Played::event_drawn))]
     fn draw(&mut self, said: &[u8]) -> Result<(), NoMemory>
         ensures drawn { OnOk result (self.new ≡ spec.event_drawn self.old said.now) }
         ensures play { OnOk result (self.new.play ≡ self.old.play) }
@@ -153,7 +153,7 @@ impl LineJob for PlayedWindows {
         }
     }
 
-    #[tactic(auto, unfolding(crate::specs::PlayState::played_picture))]
+    #[tactic(auto, unfolding(crate::specs::Played::played_picture))]
     fn finish(&mut self, _alloc: Global, text: &mut Vec<u8>) -> Result<(), NoMemory> {
         let played = &*self;
         match played.schedule.world() {
