@@ -1,5 +1,5 @@
 -- Worked captures: the records that bytes have, and what ends them. The values are by hand, after the savefile format of libpcap; the limits are
--- own. What is read is the same, in any pieces that a source gives its bytes.
+-- own. What is read does not depend on the pieces in which a source gives its bytes.
 use Rattle.std.proofs.Common.{◌≡◌, refl, ℕ, zero, suc, ◌+◌, Bool, true, false, List, [], ◌∷◌, ◌++◌, length, take, codes, Option, None, Some, Ok, Err}
 use Rattle.std.proofs.Math.ListN.{replicate}
 use Rattle.capture_reader.specs.declared.fault.CaptureFault.{CaptureFault}

@@ -1,9 +1,9 @@
--- Numbers on their circles of 48 and 24 bits (RFC 4340, sections 3.1, 7.1 and 7.6): what the short ones mean, and which of two is before
--- the other, computed from the definitions. The values were told by hand.
+-- Numbers on their circles of 48 and 24 bits (RFC 4340, sections 3.1, 7.1 and 7.6): what the short ones mean, and which of two is before the
+-- other, computed from the definitions. The values were written by hand.
 use Rattle.std.specs.Prelude.{◌≡◌, refl, ℕ, ◌+◌, ◌%◌, ◌^◌, ◌==◌, Bool, true, false, None, Some}
 use Rattle.seq_circle.specs.Circle.{distance, down, extended, is_ack_far, is_before, is_far, is_from, is_within, later_of, open_end, residue}
 
--- so many steps up from a number, as many down, and one step up
+-- this many steps up from a number, as many down, and one step up
 abbrev pub steps : ℕ → ℕ → ℕ × ℕ × ℕ
 steps number count = (residue (number + count), down number count, residue (number + 1))
 
@@ -77,7 +77,7 @@ numbers_on_their_circles :
     × (far 9388607 1000000 ≡ (false, true))
     × (far 1000000 9388607 ≡ (false, true))
     × (far 8388606 281474976710655 ≡ (false, true))
-    -- Just half of it: far, and found only where the turn is the same
+    -- Just half of it: far, and found only if the turn is the same
     × (far 8388608 0 ≡ (true, true))
     × (far 0 8388608 ≡ (true, true))
     × (far 25165824 16777215 ≡ (true, false))

@@ -1,5 +1,5 @@
--- Worked windows, computed from the definitions: how the window of CCID 2 opens and is halved, what a change of the kind makes of it,
--- and the fixed window. The values are worked out by hand from RFC 4341, section 5, with the own numbers of `Window` and `Fixed`.
+-- Worked windows, computed from the definitions: how the window of CCID 2 opens and is halved, what it is after a change of the kind, and the
+-- fixed window. The values are worked out by hand from RFC 4341, section 5, with the own numbers of `Window` and `Fixed`.
 use Rattle.std.proofs.Common.{◌≡◌, refl, ℕ, ◌+◌, ◌-◌, ◌==◌, zero, suc, Bool, true, false, nat_le, if◌then◌else◌, List, [], ◌∷◌, ◌++◌}
 use Prim.Native.String.{String}
 use Rattle.dccp_options.specs.Grammar.{options_of}
@@ -43,7 +43,7 @@ told ack options = state_at ack (vector_bytes (options_of (bytes options) false)
 abbrev all_came : ℕ → States
 all_came ack = told ack "26123f3f3f3f3f3f3f3f3f3f3f3f3f3f3f3f"
 
--- after so many numbers, from one up
+-- after this many numbers, from one up
 abbrev sent_each : {S : Type 0} → Control S → S → ℕ → ℕ → S
 sent_each control state zero number = state
 sent_each control state (suc count) number = sent_each control (control.with_sent state number) count (number + 1)
@@ -127,7 +127,7 @@ abbrev opened : ℕ → State → List (ℕ × ℕ)
 opened zero state = shown state ∷ []
 opened (suc rounds) state = shown state ∷ opened rounds (capped (adjusted false state.window 65535 state))
 
--- a window of so many packets, and nothing sent
+-- a window of this many packets, and nothing sent
 abbrev wide : ℕ → State
 wide window = record first_state { window = window }
 
@@ -139,7 +139,7 @@ windows_up_to_the_cap :
     × (shown (timed_out (wide 1024)) ≡ (1, 512))
 windows_up_to_the_cap = (refl, refl, refl)
 
--- After so many full rounds the window and the threshold by one more packet that was marked, and by a timeout.
+-- After this many full rounds the window and the threshold by one more packet that was marked, and by a timeout.
 halves_round_down : CcidTwo (
     Start 2 ∷ Send 5000 5001 ∷ Tell 5000 "260440c0" ∷ Shown 2 2 ∷ Start 2 ∷ Timeout ∷ Shown 1 2 ∷
     Start 2 ∷ Fill 0 4 65535 ∷ Send 5000 5001 ∷ Tell 5000 "260440c0" ∷ Shown 3 3 ∷ Start 2 ∷ Fill 0 4 65535 ∷ Timeout ∷ Shown 1 3 ∷

@@ -12,10 +12,9 @@ use Rattle.tests_codec.proofs.RowsSeen.{bytes}
 
 -- a call of a flight list, or what is seen of it by then
 data Step : Type 0 where
-  -- so many numbers are sent, from the first up
+  -- this many numbers are sent, from the first up
   Send : (first count : ℕ) → Step
-  -- A packet with these options reports, with this mark. What comes of it are so many that are acknowledged, and whether there is
-  -- congestion.
+  -- A packet with these options and this mark reports. The result is how many are acknowledged, and whether there is congestion.
   Tell : (ack : ℕ) → (options : String) → (mark : Option ℕ) → (acked : ℕ) → (congested : Bool) → Step
   Out : ℕ → Step
   -- this number is known as reported
@@ -71,7 +70,7 @@ round_the_circle : Flies (
     Tell 0 "2603002603c1" (Some 281474976710654) 1 true ∷ Out 0 ∷ [])
 round_the_circle = refl
 
--- Of 2,049 numbers the first has left when 1 and 0 are reported: 2,048 are out, of which one is acknowledged, and 1 alone is Reported.
+-- Of 2,049 numbers the first has left when 1 and 0 are reported: 2,048 are out, of which one is acknowledged, and only 1 is Reported.
 abbrev reported_of : States → List FlightEntry → ℕ × ℕ × List ℕ
 reported_of states entries =
     (pipe_of entries, acked_count states entries, numbers_reported (map (entry_reported states) entries))

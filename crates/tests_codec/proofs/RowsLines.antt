@@ -1,5 +1,5 @@
--- Worked inputs of lines, told one after the other. The values are by hand, after the texts of the tool's forms: a line ends in a newline, which
--- the last may lack, and has at most 4,096 bytes (own). The answers are the same, in any pieces that a source gives its bytes.
+-- Worked inputs of lines, given one after the other. The values are by hand, after the texts of the tool's forms: a line ends in a newline,
+-- which the last may lack, and has at most 4,096 bytes (own). The answers do not depend on the pieces in which a source gives its bytes.
 use Rattle.std.proofs.Common.{◌≡◌, refl, ℕ, zero, suc, ◌+◌, true, false, List, [], ◌∷◌, ◌++◌, length, drop, map, codes, None, Some}
 use Rattle.std.proofs.Math.ListN.{replicate}
 use Rattle.dccp_io.specs.declared.lines.Stop.TheVariants as stop
@@ -13,7 +13,7 @@ onward next.End following = next.End ∷ []
 onward (next.Long front) following = next.Long front ∷ []
 onward next.Much following = next.Much ∷ []
 
--- what so many calls return of an input, after so many bytes; an end stays, and so does a line that is too long or too much
+-- what this many calls return of an input, after this many bytes; an end stays, and so does a line that is too long or too much
 abbrev pub told : ℕ → ℕ → List ℕ → List Next
 told zero given bytes = []
 told (suc calls) given bytes = onward (next_in_bytes given bytes) (λ count. told calls (given + count) (drop count bytes))
@@ -62,12 +62,12 @@ most_bytes_of_an_input :
     × (next_in_bytes 16773120 (replicate 5000 97) ≡ next.Much)
 most_bytes_of_an_input = (refl, refl, refl, refl, refl, refl, refl)
 
--- a reader that was given so many bytes, and has read these after them
+-- a reader that was given this many bytes, and has read these after them
 abbrev with_pending : ℕ → List ℕ → LinesState ℕ
 with_pending given pending = record { source = 0; pending = pending; line = []; given = given; stop = None }
 
--- A line is held once its newline or its 4,097th byte was read, and no read follows where the reader stopped. First a source gives seven bytes
--- a call of two lines and the front of a third, then one a call, and then all at once: a line, and one of 4,097 bytes or of 4,096.
+-- A line is held once its newline or its 4,097th byte was read, and no read follows where the reader stopped. First a source gives seven bytes a
+-- call of two lines and the beginning of a third, then one a call, and then all at once: a line, and one of 4,097 bytes or of 4,096.
 a_reader_tells_when_it_holds_a_line :
     (holds_next (with_pending 0 []) ≡ false)
     × (holds_next (with_pending 3 (codes "cd\ne")) ≡ true)

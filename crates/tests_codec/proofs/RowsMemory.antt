@@ -1,5 +1,5 @@
--- Worked calls of sources and sinks in memory. The values are by hand: a call gives or takes the least of three numbers, and the calls
--- with the numbers that were said fail (own).
+-- Worked calls of sources and sinks in memory. The values are by hand: a call gives or takes the least of three numbers, and the calls with the
+-- given numbers fail (own).
 use Rattle.std.proofs.Common.{◌≡◌, refl, ℕ, zero, suc, true, false, List, [], ◌∷◌, codes, Ok, Err, Result}
 use Rattle.dccp_io.specs.declared.streams.Failed.{Failed}
 use Rattle.dccp_io.specs.Memory.{Calls, MemoryBytes, MemoryTaken, after_read, after_write, next_fails, read_answer, write_answer}
@@ -8,19 +8,19 @@ use Rattle.dccp_io.specs.Memory.{Calls, MemoryBytes, MemoryTaken, after_read, af
 abbrev no_call_yet : List ℕ → Calls
 no_call_yet failing = record { failing = failing; made = 0; faults = 0 }
 
--- a source of these bytes that gives at most so many a call
+-- a source of these bytes that gives at most this many a call
 abbrev source : List ℕ → ℕ → List ℕ → MemoryBytes
 source left most failing = record { left = left; most = most; calls = no_call_yet failing }
 
 abbrev failed : Result ℕ Failed
 failed = Err (record {})
 
--- the answers of so many reads into a block of that size
+-- the answers of this many reads into a block of that size
 abbrev reads : ℕ → ℕ → MemoryBytes → List (Result ℕ Failed)
 reads zero room source = []
 reads (suc calls) room source = read_answer source room ∷ reads calls room (after_read source room)
 
--- the bytes that are left after so many reads, and how many of these failed
+-- the bytes that are left after this many reads, and how many of these failed
 abbrev left_after : ℕ → ℕ → MemoryBytes → List ℕ × ℕ
 left_after zero room source = (source.left, source.calls.faults)
 left_after (suc calls) room source = left_after calls room (after_read source room)
@@ -44,7 +44,7 @@ the_last_numbered_call :
     × (next_fails (record { failing = 18446744073709551616 ∷ []; made = 18446744073709551615; faults = 0 }) ≡ false)
 the_last_numbered_call = (refl, refl)
 
--- a sink with room for so many bytes that takes at most so many a call
+-- a sink with room for this many bytes that takes at most this many a call
 abbrev sink : ℕ → ℕ → List ℕ → MemoryTaken
 sink most room failing = record { taken = []; room = room; most = most; calls = no_call_yet failing; empty_takes = 0 }
 

@@ -30,7 +30,7 @@ data Step : Type 0 where
   Start : (floor : ℕ) → Step
   -- it takes this number, which came so
   Take : (number : ℕ) → Arrived → Marked → Step
-  -- it takes so many numbers of a step's distance from this one up, which came so
+  -- it takes this many numbers of a step's distance from this one up, which came so
   TakeEach : (first count distance : ℕ) → Arrived → Step
   -- it writes a vector of this type at this number, whole or not
   Write : (ack kind : ℕ) → (written : List ℕ) → (whole : Bool) → Step
@@ -70,7 +70,7 @@ played e (step ∷ rest) = there e step ∷ played (after e step) rest
 abbrev Receives : List Step → Type 0
 Receives steps = played (none_arrived 0) steps ≡ steps
 
--- so many numbers that came with nonce 1, each second one down to 0
+-- this many numbers that came with nonce 1, each second one down to 0
 abbrev falling : ℕ → ℕ → List ℕ
 falling zero number = []
 falling (suc count) number = number ∷ falling count (number - 2)
@@ -109,14 +109,14 @@ runs_of_states : Receives (
     Take 132 zero_nonce New ∷ Write 132 39 (bytes "00c07f403f00") true ∷ Floor 1 ∷ [])
 runs_of_states = refl
 
--- A number is told by no other that is 2,048 below it, wherever the floor went.
+-- A number is not mistaken for the one that is 2,048 below it, wherever the floor is.
 places_are_emptied : Receives (
     Start 0 ∷ Take 0 one New ∷ Take 2048 came.Marked New ∷ Floor 1 ∷ Write 2048 38 (lone 64) true ∷
     Start 0 ∷ Take 5 one New ∷ Take 2060 one New ∷ Floor 13 ∷ Write 2060 39 (lone 0) true ∷
     Take 1000000 came.Marked New ∷ Floor 997953 ∷ Write 1000000 38 (lone 64) true ∷ Take 2060 one BelowFloor ∷ [])
 places_are_emptied = refl
 
--- Each byte is one number's, and 127 of the 254 numbers that came are told: only their nonces count.
+-- Each byte stands for one number, and 127 of the 254 numbers that came are reported: only their nonces count.
 cut_nonces : played (each_second 254) (Write 506 39 in_turn false ∷ []) ≡ Write 506 39 in_turn false ∷ []
 cut_nonces = refl
 

@@ -17,7 +17,7 @@ use Rattle.tests_codec.proofs.RowsSeen.{bytes}
 abbrev pub run : ℕ → ℕ → ℕ → Run
 run hi count state = record { hi = hi; count = count; state = state }
 
--- what the options of a packet report by their Ack Vectors, with its acknowledgement number: run by run, and at numbers so far below that
+-- what the options of a packet report by their Ack Vectors, with its acknowledgement number: run by run, and at numbers this far below that
 abbrev pub runs_in : Option VectorReport → List Run
 runs_in None = []
 runs_in (Some report) = runs_of report.ack report.bytes
@@ -33,7 +33,7 @@ abbrev pub reports : ℕ → String → Bool → List ℕ → Option (List (Opti
 reports ack digits on_data below = states_in below (report_of ack (options_of (bytes digits) on_data))
 
 reports_by_vectors :
-    -- The numbers and states of a report by the Ack Vectors in options, run by run, and at numbers so far below the acknowledgement
+    -- The numbers and states of a report by the Ack Vectors in options, run by run, and at numbers this far below the acknowledgement
     (runs 100 "260700c003400500" false ≡ run 100 1 0 ∷ run 99 1 3 ∷ run 98 4 0 ∷ run 94 1 1 ∷ run 93 6 0 ∷ [])
     × (reports 100 "260700c003400500" false (0 ∷ 1 ∷ 2 ∷ 5 ∷ 6 ∷ 7 ∷ 12 ∷ 13 ∷ 281474976710655 ∷ []) ≡ Some (Some 0 ∷ Some 3 ∷ Some 0 ∷ Some 0 ∷ Some 1 ∷ Some 0 ∷ Some 0 ∷ None ∷ None ∷ []))
     -- Around the circle's end, with an empty vector, another option between them, and a reserved state
@@ -86,7 +86,7 @@ Listed = List (Result Entry OptFault)
 abbrev pub zeros : List ℕ
 zeros = replicate 10 0
 
--- the lists of areas with one option of a length from 0 to 12, for each type from one to another: alone, and after Mandatory
+-- the lists of areas with one option of a length from 0 to 12, for each type from one to another: by itself, and after Mandatory
 abbrev pub plain : Bool → ℕ → ℕ → List (List Listed)
 plain on_data first last =
     each first last (λ kind. map (λ count. options_of (kind ∷ count ∷ zeros) on_data) (from_to 0 12))
@@ -99,7 +99,7 @@ marked on_data first last =
 abbrev pub unlisted : ℕ → List Listed
 unlisted kind = replicate 13 []
 
--- the option alone, with so many zeros as its data
+-- only the option, with this many zeros as its data
 abbrev pub alone : ℕ → Bool → ℕ → ℕ → Listed
 alone place mandatory kind size = option place mandatory kind (replicate size 0) ∷ []
 

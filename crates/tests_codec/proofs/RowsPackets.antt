@@ -1,5 +1,5 @@
--- Packets, their headers and the forms of their numbers (RFC 4340, sections 5 and 7.6), computed from the definitions. The frames are
--- those of worked runs of both ends, whose values a model apart gave, and ones written by hand.
+-- Packets, their headers and the forms of their numbers (RFC 4340, sections 5 and 7.6), computed from the definitions. The frames are written by
+-- hand or are those of worked runs of both ends, whose values come from a separate model.
 use Rattle.std.specs.Prelude.{◌≡◌, refl, ℕ, ◌+◌, ◌-◌, Bool, true, false, List, [], ◌∷◌, ◌++◌, length, map, replicate, take, Option, None, Some, Result, Ok, Err}
 use Rattle.std.specs.List.{range_with_len}
 use Prim.Native.String.{String}
@@ -56,7 +56,7 @@ packets_are_refused :
     × (reads "9c401389040031ec01000000000003e80000002a" ≡ Err faults.OffsetSmall)
     × (reads "9c401389060031ec01000000000003e80000002a" ≡ Err faults.OffsetLarge)
     × (reads "9c401389050031ec00000000000003e80000002a" ≡ Err faults.ShortNumbers)
-    -- Types that have long numbers alone, with X = 0: the offset is measured by the long form, and that comes first
+    -- Types that have only long numbers, with X = 0: the offset is measured by the long form, and that comes first
     × (reads "9c401389040000000000000100000000" ≡ Err faults.OffsetSmall)
     × (reads "9c40138905000000000000010000000000000000" ≡ Err faults.ShortNumbers)
     × (reads "9c4013890600000002000001000000000000000000000000" ≡ Err faults.OffsetSmall)
@@ -183,7 +183,7 @@ packets_are_written_again :
     × (again "13899c4003ff8b4e040007d3" ≡ bytes "13899c4003ff8b4e040007d3")
 packets_are_written_again = (refl, refl, refl, refl, refl, refl, refl, refl, refl, refl, refl, refl, refl, refl, refl, refl, refl, refl, refl, refl, refl, refl, refl, refl, refl, refl, refl, refl, refl, refl, refl, refl, refl, refl, refl, refl, refl, refl, refl, refl, refl, refl, refl)
 
--- the fault of each front of the bytes, from the empty one to the whole
+-- the fault of each prefix of the bytes, from the empty one to the whole
 abbrev pub fault_of : Result Parts Malformed → Option Malformed
 fault_of (Ok p) = None
 fault_of (Err fault) = Some fault
@@ -249,7 +249,7 @@ all_types =
     types.Request ∷ types.Response ∷ types.Data ∷ types.Ack ∷ types.DataAck ∷ types.CloseReq ∷ types.Close ∷ types.Reset ∷ types.Sync
     ∷ types.SyncAck ∷ []
 
--- which types have an acknowledgement number, are data alone, and may be short (section 5.1)
+-- which types have an acknowledgement number, carry only data, and may be short (section 5.1)
 types_say_what_they_carry :
     (map (λ t. has_ack t) all_types ≡ false ∷ true ∷ false ∷ true ∷ true ∷ true ∷ true ∷ true ∷ true ∷ true ∷ [])
     × (map (λ t. is_data t) all_types ≡ false ∷ false ∷ true ∷ false ∷ false ∷ false ∷ false ∷ false ∷ false ∷ false ∷ [])
@@ -282,7 +282,7 @@ fields_of_four_bits = (refl, refl, refl)
 abbrev pub with_kind : Number → Kind → Header
 with_kind number kind = record request_header { number = number; kind = kind }
 
--- an acknowledgement has the form of the sequence number, and the other types but Data have the long form alone (section 5.1)
+-- an acknowledgement has the form of the sequence number, and the other types except Data have only the long form (section 5.1)
 forms_of_the_types :
     (is_valid (with_kind (Long 1) (Ack (Long 2))) ≡ true)
     × (is_valid (with_kind (Long 1) (Ack (Short 2))) ≡ false)
@@ -340,7 +340,7 @@ numbers_in_a_form :
     × (forms (Ack (Long 1108160546054)) 1108168934661 ≡ (true, Some 8652038, Some 1108160546054, Some 1108160546054))
     × (forms (Ack (Long 1108160546054)) 1108152157447 ≡ (true, Some 8652038, Some 1108160546054, Some 1108160546054))
     × (forms (DataAck (Long 1108160546054)) 1108160546055 ≡ (true, Some 8652038, Some 1108160546054, Some 1108160546054))
-    -- A Sync has the long form alone, which means the same anywhere
+    -- A Sync has only the long form, which means the same anywhere
     × (forms (Sync 1108160546054) 2207672173830 ≡ (false, Some 1108160546054, Some 1108160546054, Some 1108160546054))
     × (forms (Reset 1108160546054 1 (0 ∷ 0 ∷ 0 ∷ [])) 2207672173830 ≡ (false, Some 1108160546054, Some 1108160546054, Some 1108160546054))
     × (forms (Request 42) 1108160546054 ≡ (false, None, None, None))

@@ -1,5 +1,5 @@
--- The tables of the phases (RFC 4340, section 8.5), computed from the definitions: a row a phase, and in it an entry for each type of
--- packet, in the order of the types' codes. They were told by hand, from the steps of the standard.
+-- The tables of the phases (RFC 4340, section 8.5), computed from the definitions: a row a phase, and in it an entry for each type of packet, in
+-- the order of the types' codes. They were written by hand, from the steps of the standard.
 use Rattle.std.specs.Prelude.{◌≡◌, refl, Bool, true, false, List, [], ◌∷◌, map}
 use Rattle.dccp_packets.specs.declared.header.PacketType.{PacketType}
 use Rattle.dccp_packets.specs.declared.header.PacketType.TheVariants as types

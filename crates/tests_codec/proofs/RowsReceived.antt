@@ -10,7 +10,7 @@ use Rattle.run_list.specs.Replay.{count_of_new}
 use Rattle.run_list.specs.declared.answers.Marked.TheVariants.{New, Again, BelowFloor}
 use Rattle.run_list.specs.declared.runs.RunCall.TheVariants.{Mark}
 
--- so many numbers, from one up
+-- this many numbers, from one up
 abbrev from : ℕ → ℕ → List ℕ
 from zero n = []
 from (suc count) n = n ∷ from count (n + 1)
@@ -76,13 +76,13 @@ even n = n % 2 == 0
 abbrev odd : ℕ → Bool
 odd n = n % 2 == 1
 
--- so many bytes: received and not received in turn
+-- this many bytes: received and not received in turn
 abbrev in_turn : ℕ → List ℕ
 in_turn zero = []
 in_turn (suc zero) = 0 ∷ []
 in_turn (suc (suc count)) = 0 ∷ 192 ∷ in_turn count
 
--- so many numbers, every second from one up
+-- this many numbers, every second from one up
 abbrev every_second : ℕ → ℕ → List ℕ
 every_second zero n = []
 every_second (suc count) n = n ∷ every_second count (n + 2)

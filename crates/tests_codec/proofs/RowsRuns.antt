@@ -1,5 +1,5 @@
--- Worked lists of calls to a set of numbers, computed from the definitions. The values follow by hand from what is said of a set; a model apart,
--- a plain set of numbers with a floor, told those of the longer lists.
+-- Worked lists of calls to a set of numbers, computed from the definitions. The values follow by hand from the description of a set; those of
+-- the longer lists come from a separate model, a plain set of numbers with a floor.
 use Rattle.std.specs.Prelude.{◌≡◌, refl, ℕ, ◌+◌, List, [], ◌∷◌, ◌++◌, zero, suc, map}
 use Rattle.seq_circle.specs.Circle.{down, residue}
 use Rattle.run_list.specs.MarkedSet.{MarkedSet, answer_to, empty_from, marked}
@@ -10,7 +10,7 @@ use Rattle.run_list.specs.declared.answers.Marked.TheVariants.{New, Again, Below
 use Rattle.run_list.specs.declared.runs.RunCall.{RunCall}
 use Rattle.run_list.specs.declared.runs.RunCall.TheVariants.{Start, Mark, Raise}
 
--- so many calls, whose numbers go up by so many steps, and whose numbers go down
+-- this many calls, whose numbers go up by this many steps, and whose numbers go down
 abbrev up : (ℕ → RunCall) → ℕ → ℕ → ℕ → List RunCall
 up call n steps zero = []
 up call n steps (suc times) = call n ∷ up call (residue (n + steps)) steps times
@@ -19,7 +19,7 @@ abbrev down_from : (ℕ → RunCall) → ℕ → ℕ → ℕ → List RunCall
 down_from call n steps zero = []
 down_from call n steps (suc times) = call n ∷ down_from call (down n steps) steps times
 
--- so many times two runs become one, and all starts anew
+-- this many times two runs become one, and all starts anew
 abbrev joins : ℕ → List RunCall
 joins zero = []
 joins (suc times) = Start 0 ∷ Mark 1 ∷ Mark 3 ∷ Mark 2 ∷ joins times

@@ -1,5 +1,5 @@
--- Worked lines of schedules and replays, read and printed: bytes above 127, the greatest index, and the faults of a line by itself. The
--- values are by hand, after the texts of the tool's forms (own).
+-- Worked lines of schedules and replays, read and printed: bytes above 127, the greatest index, and the faults of a single line. The values are
+-- by hand, after the texts of the tool's forms (own).
 use Rattle.std.proofs.Common.{◌≡◌, refl, ℕ, ◌^◌, ◌<◌, ◌≤◌, length, true, false, List, [], ◌∷◌, ◌++◌, codes, None, Some, Ok, Err, Result}
 use Rattle.std.proofs.Math.ListN.{replicate}
 use Rattle.std.specs.Fmt.{digits}

@@ -1,5 +1,5 @@
--- Checksums of whole packets and of their parts, over IPv4 and IPv6 (RFC 4340, section 9), computed from the definitions. The sums are
--- those of a model apart.
+-- Checksums of whole packets and of their parts, over IPv4 and IPv6 (RFC 4340, section 9), computed from the definitions. The sums are those of
+-- a separate model.
 use Rattle.std.specs.Prelude.{◌≡◌, refl, ℕ, Bool, true, false, List, [], ◌∷◌, Option, None, Some, Result, Ok, Err, is_some, slice_range}
 use Prim.Native.String.{String}
 use Rattle.dccp_sum.specs.Checksum.{checked, checksum, sealed}
@@ -44,7 +44,8 @@ sums_of_packets :
     -- Over IPv6, and sealed there
     × (told ipv6 "9c401389050031ec01000000000003e80000002a" ≡ (Some (20, 60025), Err Wrong, true, 234 ∷ 121 ∷ []))
     × (told ipv6 "9c4013890500ea7901000000000003e80000002a" ≡ (Some (20, 60025), Ok tt, true, 234 ∷ 121 ∷ []))
-    -- Covered are all 29 bytes, the header alone, or a word of the data: what lies outside may change, and what lies inside may not
+    -- All 29 bytes are covered, or only the header, or the header and a word of the data: what is not covered may change, and what is covered
+    -- may not
     × (told to_server "9c4013890600000007000000000003e900000000000007d0aabbccddee" ≡ (Some (29, 48545), Err Wrong, true, 189 ∷ 161 ∷ []))
     × (told to_server "9c4013890600bda107000000000003e900000000000007d0aabbccddee" ≡ (Some (29, 48545), Ok tt, true, 189 ∷ 161 ∷ []))
     × (told to_server "9c4013890600bda107000000000003e900000000000007d0aabbccdd00" ≡ (Some (29, 43938), Err Wrong, true, 171 ∷ 162 ∷ []))
@@ -77,7 +78,7 @@ sums_of_packets :
     × (told to_server "9c4013890500fffe01000000000003e800003216" ≡ (Some (20, 0), Err Wrong, true, 0 ∷ 0 ∷ []))
 sums_of_packets = (refl, refl, refl, refl, refl, refl, refl, refl, refl, refl, refl, refl, refl, refl, refl, refl, refl, refl, refl, refl, refl, refl, refl, refl, refl, refl, refl, refl, refl, refl, refl, refl, refl)
 
--- the words of RFC 1071, section 3, stand around the checksum: their sum is ddf2, and with protocol 33 and ten bytes de1d
+-- the words of RFC 1071, section 3, are around the checksum: their sum is ddf2, and with protocol 33 and ten bytes de1d
 abbrev pub nowhere : Pseudo
 nowhere = V4 (0 ∷ 0 ∷ 0 ∷ 0 ∷ []) (0 ∷ 0 ∷ 0 ∷ 0 ∷ [])
 

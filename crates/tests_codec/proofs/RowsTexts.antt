@@ -1,5 +1,5 @@
--- Worked lines of records: what no capture can say, the greatest number of a record and another link type. All else that lines come to is
--- shown by the captures of `examples/`. The values are by hand, after the texts of the tool's forms (own).
+-- Worked lines of records for what no capture can say: the greatest number of a record and another link type. All other lines are shown by the
+-- captures of `examples/`. The values are by hand, after the texts of the tool's forms (own).
 use Rattle.std.proofs.Common.{◌≡◌, refl, ℕ, false, [], length, codes}
 use Rattle.std.specs.Fmt.{digits}
 use Rattle.capture_reader.specs.Records.{RecordParts}

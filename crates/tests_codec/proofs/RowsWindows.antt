@@ -1,5 +1,5 @@
--- Marks and the verdicts on packets by them (RFC 4340, sections 7.1 and 7.5), as stories, computed from the definitions. The values were
--- told by hand.
+-- Marks, and the verdicts on packets that follow from them (RFC 4340, sections 7.1 and 7.5), as stories, computed from the definitions. The
+-- values were written by hand.
 use Rattle.std.specs.Prelude.{◌≡◌, refl, ℕ, Bool, true, false, List, [], ◌∷◌, Option, None, Some}
 use Rattle.dccp_packets.specs.declared.header.PacketType.{PacketType}
 use Rattle.dccp_packets.specs.declared.header.PacketType.TheVariants as types
@@ -83,7 +83,7 @@ stories_of_marks :
     × (verdict later types.CloseReq 3001 (Some 1449) ≡ SyncFor 3001)
     × (verdict later types.Reset 3075 (Some 1500) ≡ Valid)
     × (verdict later types.Reset 3076 (Some 1500) ≡ SyncFor 3000)
-    -- Syncs from beyond the window: the last two stand half the circle from SWL - 1, and one more
+    -- Syncs from beyond the window: the last two are half the circle from SWL - 1, and one more
     × (verdict later types.Sync 2975 (Some 1401) ≡ Drop)
     × (verdict later types.Sync 5000 (Some 1401) ≡ Valid)
     × (verdict later types.SyncAck 5000 (Some 1400) ≡ Drop)

@@ -1,5 +1,5 @@
-//! Each public call of seq_circle, dccp_sum, dccp_packets, dccp_options, validity_windows and dccp_states once, as it
-//! runs. What the calls answer on other values is computed from their definitions by the worked rows of `proofs/`.
+//! Each public call of seq_circle, dccp_sum, dccp_packets, dccp_options, validity_windows and dccp_states, run once.
+//! What the calls return for other values is computed from their definitions by the worked rows of `proofs/`.
 ghost use Rattle.std.specs.Prelude.{◌≤◌, length};
 
 use dccp_options::kinds::{ACK_VECTOR_0, CHANGE_L};
@@ -92,7 +92,7 @@ fn header_of(bytes: &[u8]) -> Option<Header> {
     }
 }
 
-// One byte of the Request that is another, and the fault that it makes.
+// One byte of the Request that is changed, and the fault that it makes.
 const REFUSED: [(usize, u8, Malformed); 4] = [
     (8, 0x15, Malformed::ReservedType),
     (4, 0x04, Malformed::OffsetSmall),
@@ -100,7 +100,7 @@ const REFUSED: [(usize, u8, Malformed); 4] = [
     (8, 0x00, Malformed::ShortNumbers),
 ];
 
-// Whether the Request with another byte at this place is refused so.
+// Whether the Request with this byte at this place is refused for this fault.
 fn is_refused(place: usize, byte: u8, fault: Malformed) -> bool {
     let mut packet = REQUEST;
     if packet.len() <= place {
@@ -118,14 +118,15 @@ fn requests_that_are_refused(rt: HostRuntime) {
     }
 }
 
-// A Response with four options, by which Ack Vectors and ECN Incapable are settled.
+// A Response with four options, which settle Ack Vectors and ECN Incapable.
 const RESPONSE: [u8; 52] = [
     0x13, 0x89, 0x9c, 0x40, 0x0d, 0, 0xa1, 0xc3, 3, 0, 0, 0, 0, 0, 7, 0xd0, 0, 0, 0, 0, 0, 0, 3,
     0xe8, 0, 0, 0, 42, 0x23, 6, 4, 1, 1, 0, 0x21, 6, 6, 1, 1, 0, 1, 0x20, 4, 4, 1, 1, 0x22, 4, 6,
     1, 0, 0,
 ];
 
-// Cut inside the first 12 bytes it is too short to be read, and cut after them its Data Offset points past its end.
+// If it is cut within the first 12 bytes, it is too short to be read; if it is cut after them, its Data Offset points
+// past its end.
 #[test]
 fn a_response_that_is_cut(rt: HostRuntime) {
     for length in 0..RESPONSE.len() {
@@ -143,7 +144,7 @@ const TO_CLIENT: Pseudo = Pseudo::V4 {
     to: [10, 0, 0, 1],
 };
 
-// With a byte after it, it has another length, which its sum covers.
+// With one more byte it has another length, which its checksum covers.
 #[test]
 fn a_response_and_a_byte(rt: HostRuntime) {
     let mut longer = [0; 53];
@@ -152,7 +153,7 @@ fn a_response_and_a_byte(rt: HostRuntime) {
     assert!(rt; check(&TO_CLIENT, &longer) == Err(SumFault::Wrong));
 }
 
-// With reserved bits set it is read as before, and its sum alone is another.
+// With reserved bits set it is read as before, and only its checksum differs.
 #[test]
 fn a_request_with_reserved_bits(rt: HostRuntime) {
     let mut packet = REQUEST;
@@ -171,7 +172,7 @@ fn keeps_its_frame(header: &Header, bytes: &[u8]) -> bool {
         && out.bytes() == bytes
 }
 
-// Whether the longest frame is written, and its options then have three zeros after them.
+// Whether the longest frame is written, with three zeros after its options.
 fn writes_the_longest(header: &Header) -> bool {
     let mut out = Frame::new();
     if !header.valid() || encode(header, &[2; 997], &[7; 1024], &mut out).is_err() {
@@ -210,7 +211,7 @@ fn options_that_do_not_fit(rt: HostRuntime) {
     assert!(rt; MOST_FRAME_BYTES == 2044 && fault.is_none(), "{fault:?}");
 }
 
-// A frame of three bytes, of which the middle one was changed.
+// A frame of three bytes, whose middle byte was changed.
 fn changed_frame() -> Option<Frame> {
     let mut frame = Frame::of(&[1, 2, 3])?;
     let bytes = frame.bytes_mut();
@@ -229,7 +230,7 @@ fn has_frame(out: &Outbox, bytes: &[u8]) -> bool {
     }
 }
 
-// Whether it holds the frame, and nothing once it is emptied.
+// Whether it holds the frame, and nothing after it is emptied.
 fn holds_until_emptied(out: &mut Outbox) -> bool {
     if !has_frame(out, &[1, 9, 3]) {
         return false;
@@ -238,7 +239,7 @@ fn holds_until_emptied(out: &mut Outbox) -> bool {
     out.frame().is_none()
 }
 
-// Whether it holds a frame of no bytes that is begun.
+// Whether it holds a frame without bytes that was begun.
 fn holds_begun(out: &mut Outbox, numbers: Numbers) -> bool {
     out.begin(numbers).bytes().is_empty() && has_frame(out, &[])
 }
@@ -284,7 +285,7 @@ fn is_short_ack(kind: &Kind, number: Seq48) -> bool {
         && kind.reset_code() == 0
 }
 
-// Whether an Ack of the number has its short form, from which it is found again.
+// Whether an Ack of the number has its short form, from which the number is found again.
 fn has_short_ack(number: u64) -> Option<bool> {
     let number = Seq48::new(number)?;
     let long = Kind::Ack {
@@ -361,12 +362,12 @@ fn puts(writer: &mut OptWriter, mandatory: bool, kind: u8, body: &[u8]) -> bool 
     32 <= kind && body.len() <= 253 && writer.put(mandatory, kind, body).is_ok()
 }
 
-// Whether an option is refused for want of room.
+// Whether an option is refused for lack of room.
 fn is_full(writer: &mut OptWriter, mandatory: bool, body: &[u8]) -> bool {
     body.len() <= 253 && writer.put(mandatory, CHANGE_L, body) == Err(OptFull)
 }
 
-// Whether the room is for three long options, and a fourth that is not longer than this.
+// Whether there is room for three long options, and for a fourth that is not longer than this.
 fn is_filled(writer: &mut OptWriter) -> bool {
     let body = [0; 253];
     for _ in 0..3 {
@@ -389,7 +390,7 @@ fn full_writer(rt: HostRuntime) {
     );
 }
 
-// Whether marks that began with a Response take the numbers of a Sync, and by which windows.
+// Whether marks that began with a Response take the numbers of a Sync, and what their windows are.
 fn take_a_sync(number: Seq48, first: Seq48) -> bool {
     let mut marks = Marks::new(first, 100);
     marks.begin(PacketType::Response, number, Some(first));

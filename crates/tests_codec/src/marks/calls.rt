@@ -1,14 +1,15 @@
-//! Lists of calls, each with what has to come of it. One function makes all calls of a kind: a proof follows each value
-//! that a function holds through each of its steps.
+//! Lists of calls, each with its expected result. One function makes all calls of a kind, because a proof follows each
+//! value that a function holds through each of its steps.
 use std::test::Fail;
 
 // What such a list calls.
 pub(crate) trait CallTarget<C> {
-    // Whether a call has the result that it should have. None if it may not be made or has too large a number: no list has one.
+    // Whether a call has its expected result. None means that it may not be made or has too large a number; no list has
+    // such a call.
     fn holds(&mut self, call: &C) -> Option<bool>;
 }
 
-// Makes the calls of a list, one after another. Fails if one has another result, with the place of the first.
+// Makes the calls of a list, one after another. Fails at the first call with another result, and names its place.
 pub(crate) fn all_come<C, S: CallTarget<C>>(
     called: &mut S,
     name: &str,

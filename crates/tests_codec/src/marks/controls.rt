@@ -1,5 +1,5 @@
-//! Congestion control by calls: how the window of CCID 2 opens and is halved, a fixed window, a change of the kind, and a
-//! flight list by itself. The values are worked out by hand from RFC 4341, section 5.
+//! Calls of congestion control: how the window of CCID 2 opens and is halved, a fixed window, a change of the kind, and
+//! a single flight list. The values are worked out by hand from RFC 4341, section 5.
 use crate::marks::calls::{CallTarget, all_come};
 use ccid_two::{Ccid2, Kinds};
 use congestion_trait::{Congestion, FixedWindow, Flight, FlightNews, Standing};
@@ -7,7 +7,7 @@ use dccp_options::{AckReport, options};
 use seq_circle::Seq48;
 use std::test::Fail;
 
-// A call of a control, and what has to come of it.
+// A call of a control, and its expected result.
 enum Call {
     Start(u8),
     // Sends each number from the first up to the second.
@@ -18,7 +18,7 @@ enum Call {
     MaySend(bool),
     Window(u32),
     InFlight(u32),
-    // The threshold, of Ccid2 alone.
+    // The threshold, which only Ccid2 has.
     Threshold(u32),
 }
 
@@ -58,7 +58,7 @@ fn time_out<C: Congestion>(control: &mut C) -> Option<bool> {
     Some(true)
 }
 
-// Whether a call has the result that it should have. None if that is not known of every control, or the call may not be made.
+// Whether a call has its expected result. None means that not every control has one, or that the call may not be made.
 fn holds<C: Congestion>(control: &mut C, call: &Call) -> Option<bool> {
     match *call {
         Call::Start(ccid) => start(control, ccid),
@@ -188,7 +188,7 @@ fn kinds_by_calls(rt: HostRuntime) -> Result<(), Fail> {
     all_come(&mut Kinds::new(rt.alloc())?, "both", &OF_KINDS)
 }
 
-// Whether of four numbers that are sent the last three are acknowledged, by which the first is lost.
+// Whether the last three of four sent numbers are acknowledged, so that the first is lost.
 fn loses_the_first(flight: &mut Flight, first: Seq48) -> Option<bool> {
     for ahead in 0..4 {
         flight.sent(first.add(ahead));

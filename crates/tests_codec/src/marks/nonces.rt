@@ -1,4 +1,4 @@
-//! The calls of a receiver, of a ledger of nonces, and of both in a world. What they answer on other values is told by
+//! The calls of a receiver, of a ledger of nonces, and of both in a world. What they return for other values is in
 //! worked rows.
 use ack_vectors::VectorBytes;
 use dccp_ecn::{Arrived, Check, EcnEvent, EcnFault, EcnReceived, EcnSeen, EcnWorld, NonceLedger};
@@ -27,8 +27,8 @@ fn nonces_run(rt: HostRuntime) -> Result<(), Fail> {
     Err(Fail::new(format_args!("the vector does not fit")))
 }
 
-// What may happen, and what is seen of it: packets of nonces 1, 0 and 1, of which the second comes marked and the third not at all. A report
-// before anything came says nothing.
+// What may happen, and what is seen of it: packets with nonces 1, 0 and 1, where the second comes marked and the third
+// does not come. A report before anything came says nothing.
 const STORY: [(EcnEvent, Result<EcnSeen, EcnFault>); 14] = [
     (EcnEvent::Report, Ok(EcnSeen::Reported(None))),
     (EcnEvent::Deliver(0), Err(EcnFault::NoSuchFrame)),

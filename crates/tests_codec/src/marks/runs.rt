@@ -1,9 +1,9 @@
-//! Lists of calls to a set of runs, over both ways to keep it. A model apart, a plain set of numbers with a floor, told
-//! the longer ones.
+//! Lists of calls to a set of runs, for both ways to keep it. The longer results come from a separate model, a plain
+//! set of numbers with a floor.
 //!
-//! A word is `start`, `mark` or `raise` with a number. After the number may stand a step up or down and how many such
-//! calls there are: `mark=0+2*1024` marks every second number from 0 to 2,046. Each mark is made twice, which changes
-//! nothing.
+//! A word is `start`, `mark` or `raise` with a number. After the number there may be a step up or down and how many
+//! such calls there are: `mark=0+2*1024` marks every second number from 0 to 2,046. Each mark is made twice, which
+//! changes nothing.
 use run_list::{PlainRuns, RunCall, RunList, Runs, Stretch, replay_runs};
 use seq_circle::Seq48;
 use std::test::Fail;
@@ -159,7 +159,7 @@ fn mark_each<R: Runs>(set: &mut R, steps: &Steps) -> u32 {
     new
 }
 
-// How many marks are New. None where a word is none of these, which no list has.
+// How many marks are New. None means that a word is none of these; no list has such a word.
 fn make<R: Runs>(set: &mut R, word: &str) -> Option<u32> {
     let (call, numbers) = word.split_once("=")?;
     let steps = read_steps(numbers)?;
@@ -189,7 +189,7 @@ fn all_come<R: Runs>(set: &mut R) -> Result<(), Fail> {
     Ok(())
 }
 
-// At last 2 joins what lies on both sides of it.
+// The last mark, 2, joins the runs on both sides of it.
 #[test]
 fn full_linked_sets(rt: HostRuntime) -> Result<(), Fail> {
     let mut set = RunList::new(rt.alloc()).ok().ok_or("no memory")?;

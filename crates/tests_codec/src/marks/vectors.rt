@@ -1,6 +1,6 @@
-//! Received numbers by calls: marks, Ack Vectors and the records that raise the floor. The lists are those of the worked
-//! rows of proofs/RowsReceived.antt with every number taken; the bytes follow by hand from the coding of RFC 4340,
-//! section 11.4.
+//! Calls about received numbers: marks, Ack Vectors and the records that raise the floor. The lists are those of the
+//! worked rows of proofs/RowsReceived.antt with every number taken; the bytes follow by hand from the coding of RFC
+//! 4340, section 11.4.
 use crate::marks::calls::{CallTarget, all_come};
 use ack_vectors::{Received, VectorBytes, Vectors};
 use run_list::Marked;
@@ -8,7 +8,7 @@ use seq_circle::Seq48;
 use std::alloc::Global;
 use std::test::Fail;
 
-// A call of a set, and what has to come of it.
+// A call of a set, and its expected result.
 enum Call {
     // Begins at this floor.
     Start(u64),
@@ -18,10 +18,10 @@ enum Call {
     TakeEach(u64, u64, usize),
     // Writes these bytes at this number, and they are the whole vector.
     Write(u64, &'static [u8]),
-    // Writes so many bytes at this number, 0x00 and 0xc0 in turn, and whether they are the whole vector: first where
-    // one option has room for them, and then where two have.
+    // Writes this many bytes at this number, 0x00 and 0xc0 in turn, and says whether they are the whole vector: first
+    // with room for one option, and then for two.
     WriteInTurn(u64, (usize, bool), (usize, bool)),
-    // Writes for this number, and records that under the first.
+    // Writes the vector for this number, and records it under the first.
     SendWritten(u64, u64, Vectors),
     // Records a packet by its number and what it acknowledges, and whether its vector is whole.
     Send(u64, u64, bool),
@@ -175,8 +175,8 @@ const LISTS: [(&str, &[Call]); 6] = [
             Call::Take(2_047, Marked::New),
         ],
     ),
-    // Every second number received, so that each byte is one number's. One option has room for 253 of them, and two for
-    // 506.
+    // Every second number received, so that each byte stands for one number. One option has room for 253 of them, and
+    // two for 506.
     (
         "vectors_at_the_edges",
         &[
@@ -196,7 +196,7 @@ const LISTS: [(&str, &[Call]); 6] = [
             Call::WriteInTurn(506, (253, false), (506, false)),
         ],
     ),
-    // What one option cuts raises no floor, and two options hold it whole.
+    // A vector that one option cuts raises no floor, and two options hold it whole.
     (
         "floor_rises_by_two_options",
         &[

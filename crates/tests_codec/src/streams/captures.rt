@@ -6,7 +6,7 @@ use dccp_io::MemorySource;
 use std::alloc::Global;
 use std::test::Fail;
 
-// A whole file header with a magic number that is none, and four bytes.
+// A whole file header whose magic number is not one, and four bytes.
 const REFUSED: [u8; 28] =
     *b"\x00\xb2\xc3\xd4\x00\x02\x00\x04\t\t\t\t\t\t\t\t\t\t\t\t\x00\x00\x00\x01rest";
 
@@ -37,7 +37,7 @@ fn fails_again(captures: &mut Captures<MemorySource>) -> bool {
     first && again && captures.holds_next()
 }
 
-// The fault comes again with no further read, and the call that failed took nothing: five calls of eight bytes were
+// The fault is returned again without a further read, and the failed call took nothing: five calls of eight bytes were
 // read.
 fn fails_in_a_record(alloc: Global) -> Result<bool, Fail> {
     match Captures::new(alloc, source_of(alloc, &BEGUN, 6, 8)?) {

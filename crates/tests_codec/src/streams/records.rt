@@ -1,4 +1,4 @@
-//! A record that is shown by `Flows::show` itself, after a text that is there before.
+//! A record that is shown by `Flows::show`, after a text that was there before.
 use capture_reader::Record;
 use packet_show::{Flows, Shown};
 use std::alloc::Global;
@@ -25,7 +25,7 @@ fn show(flows: &mut Flows, link: u32, text: &mut Vec<u8>) -> Option<Shown> {
     flows.show(&record, text).ok()
 }
 
-// The text of a record in raw IP, and of one on a link that is neither, and how many flows there are.
+// The text of a record of raw IP, that of a record with another link type, and how many flows there are.
 fn shown(flows: &mut Flows, text: &mut Vec<u8>) -> Option<u64> {
     let lines = show(flows, 101, text) == Some(Shown::Line);
     let skips = show(flows, 113, text) == Some(Shown::Skipped);

@@ -1,5 +1,5 @@
-//! The calls that no program makes, once, those that print, and the room that payloads and values have. What other lines
-//! say, and how they are printed, is worked out in `proofs/`.
+//! The calls that no program makes, each once; the calls that print; and the room for payloads and values. What other
+//! lines say, and how they are printed, is worked out in `proofs/`.
 use schedule_text::{
     Event, Line, LineFault, LineWhy, Payload, Seen, Values, print_event, print_result, print_seen,
     read_frame, read_line,
@@ -31,7 +31,7 @@ fn a_frame_is_read(rt: HostRuntime) {
     assert!(rt; is_sealed(b"seal 0011223344556677", &[0, 17, 34, 51, 68, 85, 102, 119]));
 }
 
-// How many of so many numbers find room.
+// How many of this many numbers find room.
 fn kept(numbers: u64) -> usize {
     let mut values = Values::new();
     for number in 0..numbers {
@@ -47,7 +47,7 @@ fn payloads_and_values_have_their_room(rt: HostRuntime) {
     assert!(rt; kept(10) == 9, "ten values");
 }
 
-// The events of a handshake at whose ends the numbers pass the greatest one.
+// The events of a handshake between two ends whose numbers pass the greatest one.
 const EVENTS: [&[u8]; 7] = [
     b"open",
     b"deliver c0",

@@ -1,5 +1,5 @@
-//! Sources and sinks whose calls are short, are interrupted or fail, and each call once that no program makes. What a
-//! stream in memory answers, and which lines an input has, is worked out in `proofs/`.
+//! Sources and sinks whose calls are short, are interrupted or fail, and each call that no program makes, once. What a
+//! stream in memory returns, and which lines an input has, is worked out in `proofs/`.
 ghost use Rattle.std.specs.Prelude.{◌≡◌, []};
 
 use dccp_io::{
@@ -11,7 +11,8 @@ use std::io;
 use std::io::{Error, ErrorKind, Read, Write};
 use std::test::Fail;
 
-// A source over these bytes that gives at most `most` a call, and whose call with this number fails; none has 0.
+// A source over these bytes that gives at most `most` a call, and whose call with this number fails; with 0, no call
+// fails.
 pub(crate) fn source_of(
     alloc: Global,
     bytes: &[u8],
@@ -73,7 +74,7 @@ fn inputs_to_a_limit(rt: HostRuntime) -> Result<(), Fail> {
     Ok(())
 }
 
-// A reader that is interrupted once; then it is broken, or gives a byte a call.
+// A reader that is interrupted once, and is then broken or gives a byte a call.
 #[derive(Drop)]
 struct InterruptedReader {
     interrupted: bool,
@@ -156,7 +157,7 @@ fn takes_narrowly(alloc: Global) -> bool {
     is_whole && narrow.taken.as_slice() == b"hello".as_slice()
 }
 
-// The third call fails, and the piece is written on after what was taken.
+// The third call fails, and writing goes on after what was taken.
 fn takes_the_rest(sink: &mut MemorySink) -> bool {
     write_all(sink, b"hello") == Err(Failed)
         && write_all(sink, b"llo").is_ok()
@@ -181,8 +182,8 @@ fn whole_pieces(rt: HostRuntime) -> Result<(), Fail> {
     Ok(())
 }
 
-// A source gives three bytes a call of `hello there`, and fails at its fourth. What is pending moves to the front of the
-// block of 4 bytes where that is full.
+// A source gives three bytes a call of `hello there`, and fails at its fourth. Pending bytes move to the beginning of
+// the block of 4 bytes when it is full.
 fn reads_ahead(ahead: &mut ReadAhead, source: &mut MemorySource) -> bool
     requires size { ahead.old.size ≡ 4 }
     requires none { ahead.old.pending ≡ [] }
