@@ -17,7 +17,7 @@ WHOLE = """empty comments_alone no_such_frame handshake open_both_ways number_wr
     twelve_events eight_seeds last_seeds two_flows full_listener nonces_checked marked_first one_place_buffer""".split()
 
 HEAD = '''//! The worked cases that have words and an input, one after another over the tool's one call. `tools/worked_cases.py`
-//! writes these texts from examples/, where the cases are told.
+//! writes these texts from examples/, where the cases are described.
 use crate::calls::Tool;
 use crate::cases::{Way, cases_come};
 use std::test::Fail;
@@ -88,7 +88,7 @@ def tables():
     """The text of worked.rt."""
     return "".join((
         HEAD,
-        "// Data of which one packet is overtaken, and options in a Request, in pieces of any length.\n",
+        "// Data with one packet that is overtaken, and options in a Request, in pieces of any length.\n",
         table("IN_PIECES", IN_PIECES),
         "// All others.\n",
         table("WHOLE", WHOLE),

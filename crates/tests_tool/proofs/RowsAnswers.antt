@@ -1,4 +1,4 @@
--- The words for what `ecn` sees (own), a line a case.
+-- The words for what `ecn` sees (own), one line for each case.
 use Rattle.std.proofs.Common.{◌≡◌, refl, codes}
 use Rattle.run_list.specs.declared.answers.Marked.TheVariants as answer
 use Rattle.dccp_ecn.specs.declared.ledger.Check.TheVariants as check

@@ -9,7 +9,7 @@ use Rattle.bridge_records.specs.Recording.{capture_refusal, capture_skips}
 use Rattle.bridge_records.specs.Skips.{no_tally}
 use Rattle.tests_tool.proofs.RowsSeen.{bytes, refused_after}
 
--- what `unwrap` writes of an input and what it reports besides, and whether it refuses it
+-- what `unwrap` writes of an input, what it also reports, and whether it refuses the input
 abbrev pub unwrapped : List ℕ → List ℕ × Bool
 unwrapped input = (unwrapped_text input ++ complaint_text (capture_complaint (capture_refusal (unwrapped_pieces input))), is_unwrapped_faulty input)
 
@@ -33,7 +33,7 @@ records =
     (codes "a1b2c3d40002000400000000000000000004000000000065000000010007a12000000004000000324500002800000002000007a1000000010000002860000000"
     ++ codes "0000000000000000010000000160000010c6000ec280000000010000002845")
 
--- All of it; and a section without an interface has the file header alone.
+-- All of it; and a section without an interface has only the file header.
 blocks_of_two_sections :
     (unwrapped blocks ≡ (records, false))
     × (unwrapped (take 32 blocks) ≡ (take 24 records, false))

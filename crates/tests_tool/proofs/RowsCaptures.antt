@@ -6,7 +6,7 @@ use Rattle.bridge_command.specs.Complaints.{complaint_text, line_complaint}
 use Rattle.bridge_command.specs.FrameRecords.{ip_packet}
 use Rattle.tests_tool.proofs.RowsSeen.{bytes, refused_after}
 
--- what `capture` writes of an input and what it reports besides, and whether it refuses it
+-- what `capture` writes of an input, what it also reports, and whether it refuses the input
 abbrev pub captured : List ℕ → List ℕ × Bool
 captured input = (frames_capture input ++ complaint_text (line_complaint (transcript_refusal input)), transcript_refused input)
 
@@ -17,7 +17,7 @@ transcript =
     ++ codes "sent s0 13899c400700261403000000000007d000000000000003e80000002a\nend client REQUEST window 4 flight 0 1=2/2\n# the next transcript\n"
     ++ codes "\nopen: ok\n1: sent reset 4 2 0 0\nsent c1 9c4013890700163b0f000000000003e900000000000007d004020000\n"
 
--- The file header; of each record its header, then that of IPv4, whose checksum was worked out apart, and the frame.
+-- The file header; and for each record its header, then that of IPv4, whose checksum was worked out separately, and the frame.
 abbrev pub capture : List ℕ
 capture =
     bytes

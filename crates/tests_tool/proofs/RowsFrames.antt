@@ -8,7 +8,7 @@ use Rattle.world_events.specs.declared.event.Side.{Side}
 use Rattle.world_events.specs.declared.event.Side.TheVariants.{Server}
 use Rattle.tests_tool.proofs.RowsSeen.{bytes}
 
--- what `frames` writes of an input for a flow and a side and what it reports besides, and whether it refuses it
+-- what `frames` writes of an input for a flow and a side, what it also reports, and whether it refuses the input
 abbrev pub framed : ℕ → Side → List ℕ → List ℕ × Bool
 framed flow side input =
     (frames_text flow side input ++ complaint_text (capture_complaint (capture_refusal (frames_pieces flow side input))), is_frames_faulty flow side input)

@@ -1,4 +1,5 @@
--- Versions, times and captured lengths of pcapng files, and where IP begins in a record, by numbers of the drafts of pcapng and of libpcap.
+-- Versions, times and captured lengths of pcapng files, and where IP begins in a record. The numbers are those of the drafts of pcapng and of
+-- libpcap.
 use Rattle.std.proofs.Common.{◌≡◌, refl, ℕ, Bool, true, false, List, [], ◌∷◌, ◌++◌, map, codes, Option, None, Some}
 use Rattle.capture_reader.specs.declared.format.Order.TheVariants.{Big, Little}
 use Rattle.bridge_records.specs.Blocks.{is_passed_over, is_section_version, length_fault}
@@ -10,7 +11,7 @@ use Rattle.bridge_links.specs.Links.{ip_start}
 use Rattle.bridge_links.specs.Logs.{ip_in_log, payload_from}
 use Rattle.tests_tool.proofs.RowsSeen.{bytes}
 
--- 1.0 and 1.2 alone, in either byte order
+-- only 1.0 and 1.2, in either byte order
 versions_of_sections :
     (is_section_version Big 0 (0 ∷ 1 ∷ 0 ∷ 0 ∷ []) ≡ true)
     × (is_section_version Big 0 (0 ∷ 1 ∷ 0 ∷ 2 ∷ []) ≡ true)
@@ -20,7 +21,8 @@ versions_of_sections :
     × (is_section_version Big 0 (0 ∷ 2 ∷ 0 ∷ 0 ∷ []) ≡ false)
 versions_of_sections = (refl, refl, refl, refl, refl, refl)
 
--- A block has 12 bytes at least, whole words of four, and 524,288 at most; a longer one of a packet is passed over, and of an interface is not.
+-- A block has 12 bytes at least, whole words of four, and 524,288 at most; a longer block of a packet is skipped, and one of an interface is
+-- not.
 lengths_of_blocks :
     (length_fault 12 12 ≡ None)
     × (length_fault 12 8 ≡ Some why.BadBlock)

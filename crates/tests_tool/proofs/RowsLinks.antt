@@ -105,7 +105,7 @@ others_of_wireless :
 unfolding ip_in_wireless
 others_of_wireless = (refl, refl, refl, refl, refl, refl, refl, refl)
 
--- the same after what the radio tells, of version 0, whose length has its less significant byte first
+-- the same after the radio's header, of version 0, whose length has its less significant byte first
 frames_after_radio :
     (ip_start 127 (0 ∷ 0 ∷ 8 ∷ 0 ∷ 0 ∷ 0 ∷ 0 ∷ 0 ∷ 8 ∷ 1 ∷ (replicate 22 0 ++ snap)) ≡ Some 40)
     × (ip_start 127 (1 ∷ 0 ∷ 8 ∷ 0 ∷ 0 ∷ 0 ∷ 0 ∷ 0 ∷ 8 ∷ 1 ∷ (replicate 22 0 ++ snap)) ≡ None)

@@ -1,4 +1,4 @@
--- Worked schedules with a line that is refused for its place. The values are by hand, after the text of the form `run` (own).
+-- Worked schedules with a line that is refused because of its place. The values are by hand, after the text of the form `run` (own).
 use Rattle.std.proofs.Common.{◌≡◌, refl, ℕ, List, [], codes, Option, None, Some}
 use Rattle.std.specs.Fmt.{digits}
 use Prim.Native.String.{String}

@@ -1,5 +1,5 @@
--- Why `json` skips a record, computed from the definitions. The headers are those of RFC 791, section 3.1, and RFC 8200, section 3: each of IPv4 is of
--- 20 bytes at least, and of IPv6 of 40.
+-- Why `json` skips a record, computed from the definitions. The headers are those of RFC 791, section 3.1, and RFC 8200, section 3: each header
+-- of IPv4 has at least 20 bytes, and of IPv6 40.
 use Rattle.std.proofs.Common.{◌≡◌, refl, ℕ, List, [], ◌∷◌, ◌++◌, codes, replicate, take}
 use Rattle.bridge_command.specs.Skips.{ip_skip, skip_name}
 use Rattle.bridge_links.specs.Extensions.{upper_from}
@@ -15,7 +15,8 @@ v4 first fragment protocol = first ∷ 0 ∷ 0 ∷ 20 ∷ 0 ∷ 0 ∷ fragment �
 abbrev v6 : ℕ → List ℕ
 v6 next = 96 ∷ 0 ∷ 0 ∷ 0 ∷ 0 ∷ 8 ∷ next ∷ 64 ∷ replicate 32 0
 
--- Of what is wrong the first counts: the version, the shortest header, the protocol, a fragment, the header's own length, and at last its lengths.
+-- The first of these that is wrong counts: the version, the shortest header, the protocol, a fragment, the header's own length, and then its
+-- lengths.
 why_a_record_of_ipv4_is_skipped :
     (why [] ≡ codes "NotIp") × (why (80 ∷ []) ≡ codes "NotIp") × (why (69 ∷ []) ≡ codes "ShortHeader")
     × (why (take 19 (v4 69 0 33)) ≡ codes "ShortHeader") × (why (v4 69 0 33) ≡ codes "BadHeader") × (why (v4 69 0 32) ≡ codes "NotDccp")

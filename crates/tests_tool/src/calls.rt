@@ -39,7 +39,7 @@ impl Streams {
         }
     }
 
-    /// Of so many bytes a call, of which the read or the write with this number fails.
+    /// Of this many bytes a call, of which the read or the write with this number fails.
     pub(crate) fn failing(most: usize, read: Option<u64>, write: Option<u64>) -> Streams {
         Streams {
             failing_read: read,
@@ -50,8 +50,9 @@ impl Streams {
     }
 }
 
-/// How a call ended, how many bytes it wrote, and how many of its reads and writes failed. Of a text and a line: whether
-/// what was written begins with the text and the line was told, or it is a front of the text and nothing else was told.
+/// How a call ended, how many bytes it wrote, and how many of its reads and writes failed. Of a text and a line:
+/// whether what was written begins with the text and the line was told, or it is a prefix of the text and nothing else
+/// was told.
 #[derive(Clone, Copy)]
 pub(crate) struct CallEnd {
     pub(crate) status: Status,
@@ -73,7 +74,7 @@ impl CallEnd {
     }
 }
 
-/// Words that are parted by commas.
+/// Words that are separated by commas.
 fn words_in(alloc: Global, line: &str) -> Result<Vec<String>, Fail> {
     let mut words = Vec::new(alloc);
     if line.is_empty() {
@@ -105,7 +106,7 @@ fn sink(alloc: Global, streams: &Streams) -> Result<MemorySink, Fail> {
     Ok(sink.ok().ok_or("no memory")?)
 }
 
-// Whether this is all that was told of an input that is refused: the line, or nothing where there is none.
+// Whether this is all that was told of an input that is refused: the line, or nothing if there is none.
 fn is_told_line(told: &[u8], line: &str) -> bool {
     match told.split_last() {
         Some((last, rest)) => *last == b'\n' && rest == line.as_bytes(),
@@ -133,8 +134,8 @@ fn compared(
     }
 }
 
-/// How a call of a tool with these words, parted by commas, over these bytes, ends, by a text and the line that is told
-/// apart from it.
+/// How a call of a tool with these words, separated by commas, over these bytes, ends, by a text and the line that is
+/// told apart from it.
 pub(crate) fn end_of<R: Threads + Sync, G: Gate + Sync>(
     rt: &R,
     alloc: Global,

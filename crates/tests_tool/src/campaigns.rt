@@ -1,4 +1,4 @@
-//! Workers that run beside each other.
+//! Workers that run at the same time.
 use crate::calls::{Tool, end_of};
 use crate::gates::HoldFirst;
 use crate::words::{FOUR_SEEDS, UNREAD};
@@ -7,7 +7,8 @@ use std::alloc::Global;
 use std::test::Fail;
 use std::thread::Threads;
 
-// Whether this campaign comes out whose first seed is held until the other three have begun, and whether they did.
+// Whether this campaign has its result though its first seed is held until the other three have begun, and whether they
+// did.
 fn held<R: Threads + Sync>(rt: &R, alloc: Global) -> Result<(bool, bool), Fail> {
     let gate = HoldFirst::new();
     let words = "campaign,--first,5,--seeds,4,--events,120,--workers,2";
@@ -16,7 +17,7 @@ fn held<R: Threads + Sync>(rt: &R, alloc: Global) -> Result<(bool, bool), Fail> 
     Ok((ended.is(Status::Done), gate.has_met()))
 }
 
-// Two workers run beside each other and claim as they go: one alone, or two with two seeds each from the start, would
+// Two workers run at the same time and claim seeds as they go. A single worker, or two with two fixed seeds each, would
 // leave the first seed held.
 #[test]
 fn a_held_seed_holds_no_other(rt: HostRuntime) -> Result<(), Fail> {

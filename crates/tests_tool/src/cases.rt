@@ -1,6 +1,6 @@
-//! Cases in texts, since a row of a text costs no proof. A case is `~ ` with its words, parted by commas; from the next line on its input; after
-//! `=> ` the status, and after a blank the line that it reports besides, if there is one; and from the next line on all that it writes. Captures
-//! are in hexadecimal.
+//! Cases in texts, because a row of a text costs no proof. A case is `~ ` with its words, separated by commas; its
+//! input from the next line on; after `=> ` the status, and after a space the line that it also reports, if there is
+//! one; and from the next line on all that it writes. Captures are in hexadecimal.
 use crate::calls::{CallEnd, Streams, Tool, end_of};
 use crate::failures::fails_in_turn;
 use dccp_command::Status;
@@ -29,7 +29,7 @@ const UNREAD: Streams = Streams {
     taken: 4096,
 };
 
-/// A call with its input, and what comes of it where nothing fails.
+/// A call with its input, and its result if nothing fails.
 #[derive(Clone, Copy)]
 pub(crate) struct Case<'a> {
     pub(crate) tool: Tool,
@@ -49,7 +49,7 @@ fn status_of(name: &str) -> Option<Status> {
     }
 }
 
-// How a case ends: its status, and the line that it reports besides, or an empty one.
+// How a case ends: its status, and the line that it also reports, or an empty one.
 fn end_in(answer: &str) -> Option<(Status, &str)> {
     match answer.split_once(" ") {
         Some((status, line)) => Some((status_of(status)?, line)),
@@ -152,7 +152,7 @@ fn case_comes<R: Threads + Sync>(
     comes_so(rt, alloc, way, &case)
 }
 
-/// Fails at the first case of a text that does not come out, played in this way.
+/// Plays the cases of a text in this way, and fails at the first with another result.
 pub(crate) fn cases_come<R: Threads + Sync>(
     rt: &R,
     alloc: Global,

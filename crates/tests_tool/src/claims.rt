@@ -44,7 +44,7 @@ fn claim_both<R: Threads + Sync>(
     (mine, first != second)
 }
 
-// What four claims of two numbers answer, by two claimers in turn, and the word once they are joined.
+// What four claims of two numbers return, from two claimers in turn, and the word after they are joined.
 fn claimed_in_turn(alloc: Global) -> Result<([Option<u64>; 4], u64), Fail> {
     let (claims, mut claimer) = make_claims(alloc, 2)?;
     let mut other = claimer.split(&claims)?;
@@ -64,7 +64,7 @@ fn claims_in_turn(rt: HostRuntime) -> Result<(), Fail> {
     Ok(())
 }
 
-// Whether each of two threads has its own number, and the word once they are joined.
+// Whether each of two threads has its own number, and the word after they are joined.
 fn claimed_by_two<R: Threads + Sync>(rt: &R, alloc: Global) -> Result<(bool, u64), Fail> {
     let (claims, mut claimer) = make_claims(alloc, 2)?;
     let other = claimer.split(&claims)?;

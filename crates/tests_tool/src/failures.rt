@@ -1,7 +1,7 @@
 //! Streams that fail at each of their calls in turn, in all forms of both tools.
 //!
-//! The streams say whether one of their calls failed. Exactly if one did, a tool ends with the status of a failed read or write and has written
-//! a front of its text; else it ends as ever.
+//! The streams say whether one of their calls failed. If one did, a tool ends with the status of a failed read or write
+//! and has written a prefix of its text; otherwise it ends as usual.
 use crate::bridge::CALLS;
 use crate::calls::{CallEnd, Streams, Tool};
 use crate::cases::{Case, Way, cases_come, end_over};
@@ -11,8 +11,8 @@ use std::alloc::Global;
 use std::test::Fail;
 use std::thread::Threads;
 
-// Of each form calls that are done, and where there is one, one whose input is refused: what comes of them where
-// nothing fails. In the third Mandatory is at the end of the options, with nothing after it.
+// For each form, calls that are done and, if there is one, a call whose input is refused, with their results if nothing
+// fails. In the third, Mandatory is at the end of the options, with nothing after it.
 const FORMS: &str = "\
 ~ run\n\
 plain\nopen\ndeliver c0\ndeliver s0\ndeliver c1\n\
@@ -89,7 +89,7 @@ send 1\nmark 1\nsend 2\n\
 seeds 3\nevents 3\nclient_frames 3\nserver_frames 0\ntook 0\ndelivered 0\ndropped 0\n\
 synced 0\nwas_reset 0\nsent_reset 0\nrefused 0\nsettled 48\n";
 
-// More than any call here reads or writes.
+// More calls than any case here makes.
 const MOST_CALLS: u64 = 1000;
 
 fn wanted(ended: &CallEnd, status: Status) -> Status {
@@ -102,16 +102,16 @@ fn wanted(ended: &CallEnd, status: Status) -> Status {
     }
 }
 
-// Whether a call that is to end with this status where nothing fails ended as it has to: with all of the text, or where
-// a read or a write failed, with a front of it that lacks something. Where the second tool fails to read that the input
-// ends, nothing may be left to write.
+// Whether a call that ends with this status if nothing fails ended as it has to: with all of the text, or, if a read or
+// a write failed, with a prefix that lacks something. If the second tool fails at the read that would find the input's
+// end, nothing may be left to write.
 fn is_told(ended: &CallEnd, tool: Tool, status: Status) -> bool {
     let all_is_told = tool == Tool::Bridge && ended.failed_reads != 0;
     let is_whole = ended.begins && !all_is_told;
     ended.status == wanted(ended, status) && ended.is_front && is_whole != ended.has_failed()
 }
 
-// How many bytes a call gives or takes of the inputs of a tool; those of the second are longer.
+// How many bytes a call gives or takes for a tool; the inputs of the second tool are longer.
 fn piece_of(tool: Tool) -> usize {
     match tool {
         Tool::Dccp => 7,
@@ -119,7 +119,7 @@ fn piece_of(tool: Tool) -> usize {
     }
 }
 
-// Whether each read fails in turn, or each write, up to the first number that none has.
+// Whether it ends as it has to when each read fails in turn, or each write, up to the first number that no call has.
 fn holds_in_turn<R: Threads + Sync>(
     rt: &R,
     alloc: Global,
@@ -151,7 +151,7 @@ fn by_the_byte(write: u64) -> Streams {
     }
 }
 
-// Whether the last byte fails after all the others, and one write more is not made.
+// Whether the write of the last byte fails after all others, and no further write is made.
 fn holds_for_last_byte<R: Threads + Sync>(
     rt: &R,
     alloc: Global,
@@ -164,7 +164,7 @@ fn holds_for_last_byte<R: Threads + Sync>(
     Ok(holds && last.has_failed() && !more.has_failed())
 }
 
-/// Whether each read fails in turn, and then each write, and the last byte that is written.
+/// Whether it ends as it has to when each read fails in turn, each write, and the write of the last byte.
 pub(crate) fn fails_in_turn<R: Threads + Sync>(
     rt: &R,
     alloc: Global,

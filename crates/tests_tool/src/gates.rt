@@ -1,4 +1,4 @@
-//! A gate that shows whether workers run beside each other.
+//! A gate that shows whether workers run at the same time.
 use campaign_claims::Claimer;
 use fault_campaign::Gate;
 use std::hint::spin_loop;
@@ -14,7 +14,8 @@ pub(crate) struct HoldFirst {
     met: AtomicU64,
 }
 
-// How often each seed has begun is in 16 bits of one number. A seed past the four leaves no number that is wanted.
+// One number has 16 bits for each seed, which count how often it has begun. A seed after the four would leave no
+// expected number.
 fn share_of(index: u64) -> u64 {
     match index {
         0 => 0x0001,
@@ -49,7 +50,7 @@ impl Gate for HoldFirst {
                 self.met.store(1, Ordering::SeqCst);
                 return;
             }
-            // On a machine with other work the other thread has to come to run, too.
+            // On a busy machine the other thread has to get its turn, too.
             spin_loop();
         }
     }

@@ -1,6 +1,7 @@
 //! The tests of campaign_claims, fault_campaign, dccp_command and bridge_command, on their public calls. What the
-//! second tool makes of blocks and of cut captures, and faults of places, are worked rows of proofs/, computed from the
-//! definitions. They are in a crate of their own since a crate with tests is proved twice, with them and without.
+//! second tool does with blocks and with cut captures, and the faults of places, are worked rows of proofs/, computed
+//! from the definitions. The tests are in a separate crate because a crate with tests is proved twice, with them and
+//! without.
 #![tactic(auto)]
 
 #[cfg(test)]

@@ -33,7 +33,7 @@ sent s1 13899c400600234007000000000007d100000000000003e9\n\
 end client OPEN window 4 flight 0 1=2/2 2=0/0 3=100/100 4=0/0 5=2/2 6=0/0 7=0/0 8=0/0 9=0/0\n\
 end server OPEN window 4 flight 0 1=2/2 2=0/0 3=100/100 4=0/0 5=2/2 6=0/0 7=0/0 8=0/0 9=0/0\n";
 
-// Data in OPEN, and data of no bytes; every second packet of data is answered by an Ack.
+// Data in OPEN, and data without bytes; every second packet of data is answered by an Ack.
 const DATA: &str = "\
 ~ replay,--side,server,--plain\n\
 seal 9c4013890500000001000000000003e80000002a\n\
@@ -50,7 +50,7 @@ sent s1 13899c400600234007000000000007d100000000000003e9\n\
 sent s2 13899c400600233d07000000000007d200000000000003eb\n\
 end server OPEN window 4 flight 0 1=2/2 2=0/0 3=100/100 4=0/0 5=2/2 6=0/0 7=0/0 8=0/0 9=0/0\n";
 
-// A Request of a peer, then of another, then data of none.
+// A Request of a peer, then of another, then data without bytes.
 const TURNS: &str = "\
 ~ listen,--most,1\n\
 # one flow may stand\n\
@@ -71,8 +71,8 @@ sent 10.0.0.1:40000 13899c400700183d0f000000000007d100000000000003e802000000\n\
 7 10.0.0.1:40000: refused NoFlow\n\
 flows 0\n";
 
-// Lines that begin with the first of the text. A peer asks for a service that is not there, asks again for one that is,
-// and opens; another peer asks meanwhile. Then one flow may stand, and the second peer has none that could close.
+// The lines begin with the first of the text. A peer asks for a service that is not there, asks again for one that is,
+// and opens; another peer asks in between. Then only one flow is allowed, and the second peer has no flow to close.
 const PEERS: &str = "\
 ~ listen,--most,2\n\
 10.0.0.1:40000 seal 9c4013890500000001000000000003e80000002c\n\
@@ -142,7 +142,7 @@ plain\nversion 2\n\
 => Input\n\
 line 2 column 1: HeaderLate\n";
 
-// A check without a report, and a report of one packet, which came unmarked.
+// A check without a report, and a report of one packet that came unmarked.
 const NONCES: &str = "\
 ~ ecn\n\
 check 0\n\

@@ -1,5 +1,5 @@
-//! Whole calls of the forms `run` and `show`: pieces of any length, and streams that fail. What a text can say by itself
-//! is played from `examples/`, and which lines are refused is worked out in `proofs/`.
+//! Whole calls of the forms `run` and `show`: pieces of any length, and streams that fail. What a plain text can say is
+//! played from `examples/`, and which lines are refused is worked out in `proofs/`.
 use crate::calls::{Streams, Tool, comes, end_of};
 use crate::words::{HANDSHAKE, SEVEN};
 use dccp_command::Status;
@@ -21,7 +21,7 @@ const FAILING: [(&str, Streams, Status, &str); 5] = [
         Status::Read,
         "",
     ),
-    // The first two lines were read then, and the second is `open`.
+    // By then the first two lines were read, and the second is `open`.
     (
         "the third read",
         Streams {
@@ -64,7 +64,7 @@ const FAILING: [(&str, Streams, Status, &str); 5] = [
     ),
 ];
 
-// Whether the handshake ends so over these streams.
+// Whether the handshake ends this way over these streams.
 fn ends<R: Threads + Sync>(
     rt: &R,
     alloc: Global,
@@ -89,7 +89,7 @@ fn failing_streams(rt: HostRuntime) -> Result<(), Fail> {
     Ok(())
 }
 
-// The second write fails, of an input of which a call gives as many bytes as there is room for.
+// The second write fails, for an input that gives as many bytes a call as there is room for.
 const SECOND_BLOCK: Streams = Streams {
     failing_read: None,
     failing_write: Some(2),
@@ -97,7 +97,7 @@ const SECOND_BLOCK: Streams = Streams {
     taken: 131_072,
 };
 
-// The same of an input of which a call gives seven bytes.
+// The same for an input that gives seven bytes a call.
 const SECOND_PIECE: Streams = Streams {
     failing_read: None,
     failing_write: Some(2),
@@ -105,7 +105,7 @@ const SECOND_PIECE: Streams = Streams {
     taken: 131_072,
 };
 
-// Whether a call whose second write fails has written a text of so many bytes, with this front.
+// Whether a call whose second write fails has written a text of this many bytes that begins with this.
 fn writes_block<R: Threads + Sync>(
     rt: &R,
     alloc: Global,
@@ -158,7 +158,7 @@ const ONE_RECORD: &str =
     "1 1.500000 flow 1 10.0.0.1 40000 > 10.0.0.2 5001 Request seq 1000 service 42 data 0 sum ok\n\
 records 1 shown 1 skipped 0 flows 1\n";
 
-// A capture of that record so many times.
+// A capture of that record this many times.
 fn capture_of(alloc: Global, count: usize) -> Result<Vec<u8>, Fail> {
     let item = hex::decode(alloc, RECORD)?;
     let mut capture = hex::decode(alloc, FILE_HEADER)?;
@@ -168,7 +168,7 @@ fn capture_of(alloc: Global, count: usize) -> Result<Vec<u8>, Fail> {
     Ok(capture)
 }
 
-// Whether a capture of that record so many times is shown so.
+// Whether `show` writes this for a capture of that record this many times.
 fn is_shown<R: Threads + Sync>(
     rt: &R,
     alloc: Global,
@@ -200,7 +200,7 @@ fn writes_records<R: Threads + Sync>(rt: &R, alloc: Global) -> Result<bool, Fail
     )
 }
 
-// The text of what does not wait goes out in blocks of at least 4,096 bytes: neither line by line nor when it is whole.
+// If reading does not wait, text is written in blocks of at least 4,096 bytes: neither line by line nor all at the end.
 // Each further line of the schedule is `N open: refused NotFresh`.
 #[test]
 fn blocks_of_text(rt: HostRuntime) -> Result<(), Fail> {
@@ -225,12 +225,12 @@ const MANY: Streams = Streams {
     taken: 4096,
 };
 
-// Over which streams a capture of so many records ends how.
+// A number of records, the streams, and how a capture of that many records ends over them.
 const CAPTURES: [(&str, Streams, usize, Status, &str); 5] = [
     ("a byte a call", ONE, 1, Status::Done, ONE_RECORD),
     ("seven bytes a call", SEVEN, 1, Status::Done, ONE_RECORD),
     ("capture_of_one_packet", MANY, 1, Status::Done, ONE_RECORD),
-    // The lines of whole records are written where the source fails inside the second.
+    // The lines of whole records are written when the source fails inside the second record.
     (
         "failing_source_of_a_capture",
         THIRTEENTH_PIECE,

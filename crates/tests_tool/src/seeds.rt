@@ -1,11 +1,11 @@
-//! Each call once. `examples/` has the sums of campaigns.
+//! Each call is made once. `examples/` has the sums of campaigns.
 use fault_campaign::{OpenGate, Report, campaign, run_seed};
 use std::test::Fail;
 
-// Seed 1: open, a preference and data, both refused outside a connection, the Request again, its delivery, the Response
-// six times, and a timer of the server that has nothing to do. The events were drawn apart, by a second generator over
-// a plain model of both ends. 16 features a seed are settled from the opening on, since the client asks for ECN
-// Incapable here and for Send Ack Vector there.
+// Seed 1: open; a preference and data, both refused outside a connection; the Request again; its delivery; the Response
+// six times; and a timer of the server that has nothing to do. The events were drawn separately, by a second generator
+// over a plain model of both ends. 16 features a seed are settled from the opening on, because the client asks for its
+// own ECN Incapable and for the server's Send Ack Vector.
 const SEED_ONE: Report = Report {
     seeds: 1,
     events: 12,

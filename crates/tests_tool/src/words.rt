@@ -3,7 +3,7 @@ use crate::calls::{Streams, lines_come};
 use dccp_command::Status;
 use std::test::Fail;
 
-/// The line that answers words which are none of the forms.
+/// The line that answers words that are none of the forms.
 pub(crate) const USAGE: &str =
     "usage: dccp run | replay --side server|client [--plain] [--buffer C] | campaign --first F --seeds N --events E --workers W | show | listen --most M | ecn\n";
 
@@ -25,10 +25,10 @@ pub(crate) const UNREAD: Streams = Streams {
     taken: 7,
 };
 
-// None, and what comes close to a form without options.
+// No words, and words that come close to a form without options.
 const NO_FORM: &str = "\nwalk\nrun,x\nRun\nshow,x\necn,x\nEcn\n";
 
-// Openings alone: each client sends a Request, and nobody hears it. Of 18 features a seed two are asked for.
+// Only openings: each client sends a Request, and no server gets it. Two of the 18 features of a seed are asked for.
 const OPENINGS: &str =
     "seeds 3\nevents 3\nclient_frames 3\nserver_frames 0\ntook 0\ndelivered 0\ndropped 0\n\
 synced 0\nwas_reset 0\nsent_reset 0\nrefused 0\nsettled 48\n";
@@ -38,7 +38,7 @@ pub(crate) const FOUR_SEEDS: &str =
     "seeds 4\nevents 480\nclient_frames 74\nserver_frames 82\ntook 347\ndelivered 22\ndropped 0\n\
 synced 2\nwas_reset 0\nsent_reset 0\nrefused 7\nsettled 62\n";
 
-// The ways to write a figure, and some orders; the first and the last seed that there is.
+// The ways to write a number, and some orders; the first and the last possible seed.
 const OF_CAMPAIGNS: &str = "\
     campaign,--first,1,--seeds,3,--events,1,--workers,2\n\
     campaign,--workers=2,--events=1,--seeds=3,--first=1\n\
@@ -124,7 +124,7 @@ const NO_LISTENER: &str = "\
     listen,--mos=11\n\
     --most,1,listen\n";
 
-// What ends say that met no frame.
+// What ends say to which no frame came.
 const SERVER: &str =
     "end server LISTEN window 4 flight 0 1=2/2 2=0/0 3=100/100 4=0/0 5=2/2 6=0/0 7=0/0 8=0/0 9=0/0\n";
 
@@ -136,7 +136,7 @@ const PLAIN_CLIENT: &str = "open: ok\n\
 sent c0 9c401389050031ec01000000000003e80000002a\n\
 end client REQUEST window 4 flight 0 1=2/2 2=0/0 3=100/100 4=0/0 5=2/2 6=0/0 7=0/0 8=0/0 9=0/0\n";
 
-// Lists of words of replays, by their results: without a buffer all.
+// Lists of words of replays, with their results; all are without a buffer.
 const OF_A_SERVER: &str = "\
     replay,--side,server\n\
     replay,--side=server\n\

@@ -1,10 +1,10 @@
 //! The worked cases that have words and an input, one after another over the tool's one call. `tools/worked_cases.py`
-//! writes these texts from examples/, where the cases are told.
+//! writes these texts from examples/, where the cases are described.
 use crate::calls::Tool;
 use crate::cases::{Way, cases_come};
 use std::test::Fail;
 
-// Data of which one packet is overtaken, and options in a Request, in pieces of any length.
+// Data with one packet that is overtaken, and options in a Request, in pieces of any length.
 const IN_PIECES: &str = "\
 ~ run\n# The usual ends, and data of the client. The frame c4 overtakes c3, which then comes below the floor of the Ack Vectors:\n\
 # it is taken, and its data is not delivered. Two data packets are in flight at the end.\nopen\ndeliver c0\ndeliver s0\ndeliver c1\ndeliver s1\nsend client aa\nsend client bb\nsend client cc\n\
