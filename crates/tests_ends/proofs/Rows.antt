@@ -45,7 +45,7 @@ dropped-in-listen :
 unfolding receives framed
 dropped-in-listen = (refl, refl, refl, refl, refl, refl, refl, refl)
 
--- the options of a Request: Mandatory twice, one that is not understood under Mandatory, and two that are passed over
+-- the options of a Request: Mandatory twice, one that is not understood under Mandatory, and two that are skipped
 options-in-request :
     (seen (arrives listening "9c401389060030e701000000000003e80000002a00000001")
     ≡ (SentReset 5 (1 ∷ 0 ∷ 0 ∷ []), sent "13899c400700153d0f000000000007d000000000000003e805010000", phase.Closed))
@@ -123,7 +123,7 @@ server-closes :
 unfolding receives opens closes fires framed
 server-closes = (refl, refl, refl, refl)
 
--- an abort sends a Reset 2, and nothing before the other end was heard
+-- an abort sends a Reset 2, and nothing before a frame came from the other end
 aborted :
     (seen (aborts open_client) ≡ (Ok tt, sent "9c4013890700183b0f000000000003ea00000000000007d102000000", phase.Closed))
     × (seen (aborts responding) ≡ (Ok tt, sent "13899c400700183d0f000000000007d100000000000003e802000000", phase.Closed))

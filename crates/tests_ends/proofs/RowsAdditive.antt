@@ -1,4 +1,4 @@
--- Worked windows that grow and are halved, by reports alone, computed from the definitions (own; worked out by hand).
+-- Worked windows that grow and are halved by reports only, computed from the definitions (own; worked out by hand).
 use Rattle.std.proofs.Common.{◌≡◌, refl, ℕ, true, false, List, [], ◌∷◌, map}
 use Rattle.congestion_trait.specs.Calls.{Call, Reports, Sends, Starts, TimesOut, after_call}
 use Rattle.congestion_trait.specs.Control.{Control}
@@ -97,6 +97,6 @@ begins_anew :
     ∷ [])
 begins_anew = (refl, refl)
 
--- its own number alone is known
+-- only its own number is known
 knows_its_number : (control.is_known 249 ≡ true) × (control.is_known 2 ≡ false) × (control.is_known 248 ≡ false)
 knows_its_number = (refl, refl, refl)

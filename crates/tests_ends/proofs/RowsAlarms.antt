@@ -167,7 +167,7 @@ phases_at_both_ends :
 phases_at_both_ends =
     (refl, refl, refl, refl, refl, refl, refl, refl, refl, refl, refl, refl, refl, refl, refl, refl, refl, refl, refl, refl, refl)
 
--- What an owner is told: data, the end of a connection by a Reset that came or went out, and nothing of all else.
+-- What an owner is told: data, the end of a connection by a Reset that came or went out, and nothing else.
 what_an_owner_is_told : (why : Why) →
     (news_of (Took (Some (16, 20))) phases.Open phases.Open ≡ news.Data 16 20) × (news_of (Took None) phases.Open phases.Closed ≡ news.Quiet)
     × (news_of (Dropped why) phases.Open phases.Closed ≡ news.Quiet) × (news_of (Synced 7) phases.Open phases.Closed ≡ news.Quiet)

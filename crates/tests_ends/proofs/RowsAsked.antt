@@ -1,6 +1,7 @@
--- Worked answers that no replay has a line for, and two ends of this project never send each other, computed from the definitions: Changes and Confirms that
--- meet a wish, at both roles (RFC 4340, section 6, and the table of this profile); each packet type at a client before `open`, and what a server that has
--- asked for a Close answers to types that its peer may not send (RFC 4340, section 8.5). The values were worked out by hand.
+-- Worked answers to what no replay has a line for and two ends of this project never send each other, computed from the definitions: Changes and
+-- Confirms that meet a wish, for both roles (RFC 4340, section 6, and the table of this profile); each packet type at a client before `open`,
+-- and what a server that has asked for a Close answers to types that its peer may not send (RFC 4340, section 8.5). The values were worked out
+-- by hand.
 use Rattle.std.proofs.Common.{◌≡◌, refl, ℕ, false, List, [], ◌∷◌, Option, None}
 use Prim.Native.String.{String}
 use Rattle.dccp_packets.specs.Outgoing.{bytes_sent}
@@ -90,7 +91,7 @@ what_meets_a_wish :
     ≡ (Took None, 0, Unstable, None))
     × (answers (unstable server Here) f.MinCsCov Here "9c4013890700f72c07000000000003ea00000000000007d223040809"
     ≡ (Took None, 0, Unstable, None))
-    -- A Confirm that acknowledges a number before the Change's is ignored, also where the Change has gone out again
+    -- A Confirm that acknowledges a number before the Change's is ignored, also if the Change was sent again
     × (answers (changing server Here) f.MinCsCov Here "9c4013890800f52d07000000000003ea00000000000007d12306080101020000"
     ≡ (Took None, 0, Changing, None))
     × (answers (changing server Here) f.MinCsCov Here "9c4013890800f52c07000000000003ea00000000000007d22306080101020000"
@@ -145,7 +146,7 @@ what_meets_a_wish :
     ≡ (SentReset 5 (33 ∷ 8 ∷ 3 ∷ []), 0, Changing, sent "13899c4007000d150f000000000007d300000000000003ea05210803"))
     × (answers (changing server There) f.MinCsCov There "9c4013890800f52c07000000000003ea00000000000007d22306080101020000"
     ≡ (Took None, 0, Changing, None))
-    -- A Confirm of a value alone: one of the list, the one that is held, and another
+    -- A Confirm of only a value: one of the list, the one that is held, and another
     × (answers (changing server Here) f.MinCsCov Here "9c4013890700f73307000000000003ea00000000000007d223040802" ≡ (Took None, 2, Stable, None))
     × (answers (changing server Here) f.MinCsCov Here "9c4013890700f73507000000000003ea00000000000007d223040800" ≡ (Took None, 0, Stable, None))
     × (answers (changing server Here) f.MinCsCov Here "9c4013890700f73207000000000003ea00000000000007d223040803"
@@ -240,7 +241,7 @@ what_meets_a_clients_wish :
     ≡ (Took None, 0, Unstable, None))
     × (answers (unstable client Here) f.MinCsCov Here "13899c400700f72c07000000000007d200000000000003ea23040809"
     ≡ (Took None, 0, Unstable, None))
-    -- A Confirm that acknowledges a number before the Change's is ignored, also where the Change has gone out again
+    -- A Confirm that acknowledges a number before the Change's is ignored, also if the Change was sent again
     × (answers (changing client Here) f.MinCsCov Here "13899c400800f52d07000000000007d200000000000003e92306080101020000"
     ≡ (Took None, 0, Changing, None))
     × (answers (changing client Here) f.MinCsCov Here "13899c400800f52c07000000000007d200000000000003ea2306080101020000"
@@ -295,7 +296,7 @@ what_meets_a_clients_wish :
     ≡ (SentReset 5 (33 ∷ 8 ∷ 3 ∷ []), 0, Changing, sent "9c40138907000d150f000000000003eb00000000000007d205210803"))
     × (answers (changing client There) f.MinCsCov There "13899c400800f52c07000000000007d200000000000003ea2306080101020000"
     ≡ (Took None, 0, Changing, None))
-    -- A Confirm of a value alone: one of the list, the one that is held, and another
+    -- A Confirm of only a value: one of the list, the one that is held, and another
     × (answers (changing client Here) f.MinCsCov Here "13899c400700f73307000000000007d200000000000003ea23040802" ≡ (Took None, 2, Stable, None))
     × (answers (changing client Here) f.MinCsCov Here "13899c400700f73507000000000007d200000000000003ea23040800" ≡ (Took None, 0, Stable, None))
     × (answers (changing client Here) f.MinCsCov Here "13899c400700f73207000000000007d200000000000003ea23040803"

@@ -1,5 +1,5 @@
--- Worked stories of an end, of a client, and of a server with an offer, computed from the definitions: what each call answers,
--- the frame that goes out, and what the end shows then. The numbers and frames were worked out by hand, or by a second implementation.
+-- Worked stories of an end, of a client, and of a server with an offer, computed from the definitions: what each call returns, the frame that
+-- goes out, and what the end then shows. The numbers and frames were worked out by hand, or by a second implementation.
 use Rattle.std.proofs.Common.{◌≡◌, refl, true, [], ◌∷◌, None, Ok, Err}
 use Rattle.dccp_states.specs.declared.calls.OpenFault.TheVariants as opening
 use Rattle.dccp_states.specs.declared.calls.Timer.TheVariants as timers

@@ -1,5 +1,5 @@
--- Worked stories of an end, of a server, computed from the definitions: what each call answers,
--- the frame that goes out, and what the end shows then. The numbers and frames were worked out by hand, or by a second implementation.
+-- Worked stories of an end, of a server, computed from the definitions: what each call returns, the frame that goes out, and what the end then
+-- shows. The numbers and frames were worked out by hand, or by a second implementation.
 use Rattle.std.proofs.Common.{◌≡◌, refl, true, false, [], ◌∷◌, None, Ok, Err}
 use Rattle.dccp_states.specs.declared.calls.AbortFault.TheVariants as aborting
 use Rattle.dccp_states.specs.declared.calls.CloseFault.TheVariants as closing
@@ -146,7 +146,7 @@ at_a_server :
     Sends (Ok tt) (sent "13899c400400812d05000000000007d3aa") ∷ Sends (Ok tt) (sent "13899c400400702c05000000000007d4bb") ∷
     Sends (Ok tt) (sent "13899c4004005f2b05000000000007d5cc") ∷ Sends (Ok tt) (sent "13899c4004004e2a05000000000007d6dd") ∷
     Hears (Took None) None ∷ WindowIs 6 0 ∷ [])
-    -- By CCID 248 data go out without Ack Vectors: a DataAck where an acknowledgement is owed, and then a Data
+    -- By CCID 248 data go out without Ack Vectors: a DataAck if an acknowledgement is due, and then a Data
     × (story (plain Server) (Packet "9c401389050031ec01000000000003e80000002a" ∷ Packet "9c4013890600234107000000000003e900000000000007d0" ∷
     Prefer f.Ccid Here (248 ∷ []) ∷ Packet "9c4013890800043507000000000003ea00000000000007d2230601f8f8020000" ∷ Send "aa" ∷ Send "bb" ∷
     AtWindow ∷ [])

@@ -1,4 +1,4 @@
--- Stories of an end with its congestion control, call by call, and what each call answers, computed from the definitions. Rows of other files
+-- Stories of an end with its congestion control, call by call, and what each call returns, computed from the definitions. Rows of other files
 -- cite them.
 use Rattle.std.proofs.Common.{ℕ, ◌==◌, Bool, List, [], ◌∷◌, ◌++◌, Option, Result, codes}
 use Rattle.std.specs.List.{list_any}
@@ -69,7 +69,7 @@ record Story : Type 0 where
 abbrev saying : Story → Told → Story
 saying s told = record s { said = s.said ++ told ∷ [] }
 
--- a step of it, with what that makes of the congestion control
+-- a step of it, with the congestion control after the step
 abbrev stepped : {Answer : Type 0} → Story → (Answer → Option (List ℕ) → Told) → EndStep Both Answer → Story
 stepped s tells step = saying (record s { end = step.after }) (tells step.answer (bytes_sent step.frame))
 

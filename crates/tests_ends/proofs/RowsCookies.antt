@@ -1,5 +1,5 @@
 -- What is in a cookie, and which options hold one, computed from the definitions. The bytes were worked out by hand from the tables of
--- docs/PROTOCOL.md, and the checksums by a sum of another program. No row computes a hash: those are in the tests of cookies.
+-- docs/PROTOCOL.md, and the checksums by another program. No row computes a hash: hashes are in the tests of cookies.
 use Rattle.std.proofs.Common.{◌≡◌, refl, ℕ, List, true, false, [], ◌∷◌, replicate, Some, None, Ok, Err}
 use Rattle.dccp_options.specs.Grammar.{Entry}
 use Rattle.dccp_options.specs.declared.option.OptFault.TheVariants as faults

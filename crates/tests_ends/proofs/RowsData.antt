@@ -1,4 +1,4 @@
--- Worked data, computed from the definitions: what `send` puts out and what it is refused for, and what the congestion control hears of it.
+-- Worked data, computed from the definitions: what `send` puts out, what it is refused for, and what is reported to the congestion control.
 use Rattle.std.proofs.Common.{◌≡◌, refl, ℕ, Bool, true, false, List, [], ◌∷◌, replicate, Some, None, Ok, Err}
 use Rattle.dccp_states.specs.declared.phase.Phase.TheVariants as phase
 use Rattle.dccp_endpoint.specs.Calling.{Called, fires, opens, sends_payload, sends_unless}
@@ -16,7 +16,7 @@ use Rattle.tests_ends.proofs.RowsSeen.{Reported, Sent, TimedOut, arrives, calls_
 use Rattle.tests_ends.proofs.RowsVectors.{heard_1002, heard_1003, heard_1004, heard_1005}
 
 -- The usual connection with data, at the client. It owes an acknowledgement of the server's Ack, so its first data go out on a DataAck, and the
--- next on Data. The server's Ack reports that 1004 and 1002 came, and not 1003; it is owed one, too.
+-- next on Data. The server's Ack reports that 1004 and 1002 came, and not 1003; it is due one, too.
 abbrev pub usual_client : EndState
 usual_client = (arrives usual_part_open usual_vector).after
 

@@ -6,7 +6,7 @@ use Rattle.data_dropped.specs.Reports.{drop_report}
 use Rattle.dccp_options.specs.Grammar.{options_of}
 use Rattle.dccp_options.specs.Vectors.{VectorReport}
 
--- the codes that a report gives so many numbers, from one down
+-- the codes that a report gives this many numbers, from one down
 abbrev codes_down : VectorReport → ℕ → ℕ → List (Option ℕ)
 codes_down r number zero = []
 codes_down r number (suc count) = code_at r.ack r.bytes number ∷ codes_down r (number - 1) count

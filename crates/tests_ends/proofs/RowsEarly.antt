@@ -1,5 +1,5 @@
--- Worked data of a client that speaks first, computed from the definitions: what `send_early` puts out and what it is refused for, and what a
--- server in RESPOND and in OPEN makes of it.
+-- Worked data of a client that speaks first, computed from the definitions: what `send_early` puts out, what it is refused for, and what a
+-- server in RESPOND and in OPEN does with it.
 use Rattle.std.proofs.Common.{◌≡◌, refl, true, false, [], ◌∷◌, Some, None, Ok, Err}
 use Prim.Native.String.{String}
 use Rattle.dccp_states.specs.declared.phase.Phase.TheVariants as phase

@@ -1,4 +1,4 @@
--- Worked deliveries of frames with short numbers to an end that takes these: which are too far to be told, by numbers that are put there.
+-- Worked deliveries of frames with short numbers to an end that takes these, for numbers that are put there: which are too far away to be known.
 use Rattle.std.proofs.Common.{◌≡◌, refl, ℕ, [], ◌∷◌, Option, Some, None, true, false, Result, Err}
 use Rattle.std.specs.Prelude.{codes, is_ok}
 use Prim.Native.String.{String}
@@ -72,7 +72,7 @@ near-frames-arrive :
 unfolding receives framed
 near-frames-arrive = (refl, refl, refl, refl, refl, refl)
 
--- no long frame, and none where short numbers are not taken: by the value at the peer, and in a phase with no connection
+-- no long frame, and none if short numbers are not taken: by the value at the peer, and in a phase with no connection
 other-frames-arrive :
     (is_far_frame (taking 25166826 16779217) long_ack ≡ false)
     × (is_far_frame (with_marks open_server 25166826 16779217) ack ≡ false)

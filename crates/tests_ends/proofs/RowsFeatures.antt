@@ -42,11 +42,11 @@ the_table_of_features :
     × (feature_numbered 10 ≡ None)
 the_table_of_features = (refl, refl, refl, refl, refl, refl, refl, refl, refl, refl, refl)
 
--- Whether a value is permitted, and what comes of a wish for it alone.
+-- Whether a value is permitted, and the result of a wish for only this value.
 abbrev edge : Feature → Place → ℕ → Bool × Result Wanted PreferFault
 edge feature place value = (is_permitted feature place value, wish_of feature place (value ∷ []))
 
--- The values that are usual, and the usual wish: of what the peer tells there is none.
+-- The values that are usual, and the usual wish: for what the peer decides there is none.
 abbrev usually : Feature → Place → List ℕ × Option Wanted
 usually feature place = (usual_values feature place, usual_of feature place)
 

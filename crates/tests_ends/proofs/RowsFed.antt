@@ -1,5 +1,5 @@
--- Worked lists of frames that an end is fed, among them such as no end of this project sends (RFC 4340, section 8.5), computed from the definitions:
--- how many were taken; the phase; GSS, GSR, OSR and GAR; the floor, and how many numbers are marked.
+-- Worked lists of frames that arrive at an end, also frames that no end of this project sends (RFC 4340, section 8.5), computed from the
+-- definitions: how many were taken; the phase; GSS, GSR, OSR and GAR; the floor, and how many numbers are marked.
 use Rattle.std.proofs.Common.{◌≡◌, refl, ℕ, List, [], ◌∷◌, map, codes}
 use Prim.Native.String.{String}
 use Rattle.ccid_two.specs.Kinds.{Both, at_first, kinds_control}
@@ -25,7 +25,7 @@ fed_with frames = (count_of_taken kinds_control server frames, shows (fed kinds_
 abbrev fed_as : List String → ℕ × (Phase × (ℕ × ℕ × ℕ × ℕ) × (ℕ × ℕ))
 fed_as frames = fed_with (map (λ digits. bytes (codes digits)) frames)
 
--- a Request and an Ack open the server; other frames stand around them
+-- a Request and an Ack open the server; other frames come before and after them
 fed_at_a_server :
     (fed_as [] ≡ (0, (phase.Listen, (1999, 0, 0, 2000), (0, 0))))
     × (fed_as (request ∷ client_ack ∷ [])

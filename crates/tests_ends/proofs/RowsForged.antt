@@ -1,6 +1,6 @@
--- Worked packets under the rules of a path: those that would be answered by a Sync, of which few are heard, and an end that nobody answers. The
--- packets and numbers were worked out by hand; the server has received up to 1001 and sent up to 2001, with windows of 100, so that SWL is 1000
--- and SWH 1076.
+-- Worked packets under the rules of a path: those that would be answered by a Sync, most of which are ignored, and an end that nobody answers.
+-- The packets and numbers were worked out by hand; the server has received up to 1001 and sent up to 2001, with windows of 100, so that SWL is
+-- 1000 and SWH 1076.
 use Rattle.std.proofs.Common.{◌≡◌, refl, ℕ, zero, suc, Bool, true, false, List, [], ◌∷◌, ◌++◌, replicate, Option, Some, None, codes}
 use Prim.Native.String.{String}
 use Rattle.dccp_packets.specs.Outgoing.{bytes_sent}
@@ -28,7 +28,7 @@ use Rattle.dccp_uses.specs.declared.timed_end.Due.TheVariants as due
 use Rattle.tests_ends.proofs.RowsSeen.{bytes, open_server, plain, sent}
 use Rattle.tests_ends.proofs.RowsShort.{holding}
 
--- which of these datagrams are heard, each at its time
+-- which of these datagrams are taken, each at its time
 abbrev heard_each : EndState → Path → List (ℕ × String) → List Bool
 heard_each e path [] = []
 heard_each e path (it ∷ rest) =
@@ -73,7 +73,7 @@ short_after = "9c401389030030d104000435"
 abbrev short_inside : String
 short_inside = "9c401389030030d204000434"
 
--- Twenty near ones are heard at one time, and one more each 50 milliseconds; a far one each second, which takes nothing from these; and always
+-- Twenty near ones are taken at one time, and one more each 50 milliseconds; a far one each second, which takes nothing from these; and always
 -- what would not be answered by a Sync.
 few_are_heard :
     (heard_by open_server (replicate 21 (1000, after_it)) ≡ replicate 20 true ++ false ∷ [])
@@ -107,7 +107,7 @@ short_numbers_count :
 unfolding receives
 short_numbers_count = (refl, refl, refl)
 
--- that server with its timers, and the same after so many packets of somebody who knows its ports
+-- that server with its timers, and the same after this many packets of somebody who knows its ports
 abbrev opened : Pace → TimedState Both
 opened pace =
     record (timed_begins kinds_control (plain Server) at_first pace) { end = record (begins kinds_control (plain Server) at_first) { state = open_server } }

@@ -1,5 +1,5 @@
--- What two ends without options sent, processed and show in the world after a plain handshake, each frame delivered once and in order, computed from the
--- definitions; it was worked out by hand.
+-- What two ends without options sent, processed and show in the world after a plain handshake, when each frame is delivered once and in order.
+-- It is computed from the definitions and was worked out by hand.
 use Rattle.std.proofs.Common.{◌≡◌, refl, ℕ, List, [], ◌∷◌, map, codes}
 use Prim.Native.String.{String}
 use Rattle.ccid_two.specs.Kinds.{Both, at_first, kinds_control}

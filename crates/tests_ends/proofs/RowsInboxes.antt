@@ -1,5 +1,5 @@
--- Worked calls of an inbox, one after another, each with its answer, computed from the definitions. What a report's bytes are is told by RFC 4340,
--- section 11.7, and was worked out by hand.
+-- Worked calls of an inbox, one after another, each with its result, computed from the definitions. The bytes of a report follow RFC 4340,
+-- section 11.7, and were worked out by hand.
 use Rattle.std.proofs.Common.{◌≡◌, refl, ℕ, ◌+◌, ◌-◌, zero, suc, Bool, true, false, List, [], ◌∷◌, ◌++◌, replicate, length, drop, map, Option, None, Some, codes}
 use Rattle.data_dropped.specs.Drops.{code_table, drop_byte, drop_bytes, drop_code, most_numbers, tells_all}
 use Rattle.data_dropped.specs.Intakes.{intake_of}
@@ -8,8 +8,8 @@ use Rattle.data_dropped.specs.declared.answers.Arrival.{Arrival}
 use Rattle.data_dropped.specs.declared.answers.Arrival.TheVariants.{Kept, Dropped}
 use Rattle.data_dropped.specs.declared.drops.DropEntry.{DropEntry}
 
--- A call: data arrive under a number, or longer ones than an inbox takes; so many arrive, each a step above the last, and are dropped with
--- one code; an item is taken; the application stops; whether it is slow; and the report at a number, whole or its last bytes.
+-- A call: data arrive under a number, or longer ones than an inbox takes; this many arrive, each a step above the last, and are dropped with one
+-- code; an item is taken; the application stops; whether it is slow; and the report at a number, whole or its last bytes.
 data Call : Type 0 where
   Arrive : (number : ℕ) (payload : List ℕ) → Call
   Long : (number : ℕ) → Call
@@ -30,12 +30,12 @@ data Answer : Type 0 where
   Wrote : (bytes : List ℕ) (whole : Bool) → Answer
   Ended : (count : ℕ) (last : List ℕ) (whole : Bool) → Answer
 
--- so many arrive, each a step above the last
+-- this many arrive, each a step above the last
 abbrev each : InboxState → ℕ → ℕ → ℕ → InboxState
 each held first zero step = held
 each held first (suc count) step = each (after_arrival held first []) (first + step) count step
 
--- so many bytes of an array of 8 times 238, of which the first are these
+-- this many bytes of an array of 8 times 238, of which the first are these
 abbrev over : List ℕ → List ℕ
 over payload = payload ++ replicate (8 - length payload) 238
 
@@ -76,7 +76,7 @@ abbrev answers : InboxState → List Call → List Answer
 answers held [] = []
 answers held (call ∷ rest) = answer held call ∷ answers (after held call) rest
 
--- calls of a new inbox of so many places have these answers
+-- calls of a new inbox of this many places have these answers
 abbrev Comes : ℕ → List (Call × Answer) → Type 0
 Comes capacity rows = answers (empty_inbox capacity) (map (λ row. row.0) rows) ≡ map (λ row. row.1) rows
 

@@ -1,5 +1,5 @@
--- Worked stories of one end's negotiation, word by word, computed from the definitions (RFC 4340, section 6, and the table of this profile); what they
--- answer was worked out by hand.
+-- Worked stories of one end's negotiation, word by word, computed from the definitions (RFC 4340, section 6, and the table of this profile);
+-- their answers were worked out by hand.
 use Rattle.std.proofs.Common.{◌≡◌, refl, ℕ, if◌then◌else◌, Bool, true, false, List, [], ◌∷◌, Option, None, Some, Result, Ok, Err, codes}
 use Prim.Native.String.{String}
 use Rattle.feature_lists.specs.Wishes.{is_ours, wish_of}
@@ -237,7 +237,7 @@ stories :
     ≡ Done ∷ Opens ∷ Carrying false ∷ [])
     × (story (Offer f.MinCsCov Here false ∷ Begins Client ∷ Open f.MinCsCov Here false ∷ Carries f.MinCsCov Here ∷ [])
     ≡ Done ∷ Opens ∷ Carrying false ∷ [])
-    -- Unknown features, and values that are told
+    -- Unknown features, and values that are not negotiated
     × (story (Begins Server ∷ Change There 10 "01" false ∷ Change Here 0 "01" true ∷ Confirm There 10 "01" None ∷ Change There 5 "0007" false ∷
     Holds f.AckRatio There ∷ Change There 5 "000007" false ∷ Change Here 5 "0007" false ∷ Change Here 5 "0007" true ∷ [])
     ≡ confirm_r 10 "" ∷ Answers Failing ∷ Settles settling.Ignored ∷ confirm_r 5 "0007" ∷ Held 7 Stable ∷ confirm_r 5 "" ∷ confirm_l 5 "" ∷
@@ -246,7 +246,7 @@ stories :
     Holds f.AckRatio There ∷ Change There 5 "000007" false ∷ Change Here 5 "0007" false ∷ Change Here 5 "0007" true ∷ [])
     ≡ confirm_r 10 "" ∷ Answers Failing ∷ Settles settling.Ignored ∷ confirm_r 5 "0007" ∷ Held 7 Stable ∷ confirm_r 5 "" ∷ confirm_l 5 "" ∷
     Answers Failing ∷ [])
-    -- Confirms of a value that was told: of that, of another, of another length, and empty
+    -- Confirms of a value that is not negotiated: of that value, of another, of another length, and empty
     × (story (Begins Server ∷ Prefer f.AckRatio Here (3 ∷ []) ∷ Send f.AckRatio Here 7 ∷ Confirm Here 5 "0003" (Some 7) ∷
     Holds f.AckRatio Here ∷ [])
     ≡ Asks opening.Now ∷ Settles settling.Settled ∷ Held 3 Stable ∷ [])
@@ -403,7 +403,7 @@ the_table_of_negotiation :
     ≡ Settles settling.Ignored ∷ Held 0 Changing ∷ [])
     × (meets (changing Client) (Confirm Here 8 "020201" (Some 99) ∷ Holds f.MinCsCov Here ∷ [])
     ≡ Settles settling.Ignored ∷ Held 0 Changing ∷ [])
-    -- Of nothing, of the value that the lists settle on, of the one that is held where they share none, and of a value alone
+    -- Of nothing, of the value that the lists settle on, of the one that is held if they share none, and of only a value
     × (meets (changing Server) (Confirm Here 8 "" (Some 100) ∷ Holds f.MinCsCov Here ∷ []) ≡ Settles settling.Settled ∷ Held 0 Stable ∷ [])
     × (meets (changing Client) (Confirm Here 8 "" (Some 100) ∷ Holds f.MinCsCov Here ∷ []) ≡ Settles settling.Settled ∷ Held 0 Stable ∷ [])
     × (meets (changing Server) (Confirm Here 8 "010201" (Some 100) ∷ Holds f.MinCsCov Here ∷ []) ≡ Settles settling.Settled ∷ Held 1 Stable ∷ [])

@@ -1,4 +1,4 @@
--- The numbers that are told of frames beside the bytes that spell them, and the number that was taken last, worked out by hand.
+-- The numbers that are kept with frames beside the bytes that spell them, and the number that was taken last, worked out by hand.
 use Rattle.std.proofs.Common.{◌≡◌, refl, ℕ, Option, None, Some, false}
 use Prim.Native.String.{String}
 use Rattle.dccp_packets.specs.Outgoing.{Outgoing}
@@ -16,7 +16,7 @@ use Rattle.tests_ends.proofs.RowsSeen.{arrives, client_ack, close, listening, op
 use Rattle.tests_ends.proofs.RowsShort.{holding, short_ack}
 use Rattle.tests_ends.proofs.RowsShortSent.{acknowledges, sending}
 
--- the numbers that are told of what goes out
+-- the numbers that are kept with what goes out
 abbrev told : Option Outgoing → Option (ℕ × Option ℕ)
 told None = None
 told (Some sent) = Some (sent.number, sent.ack)
@@ -44,7 +44,7 @@ abbrev opened : String → String → EndState
 opened request ack = (arrives (arrives listening request).after ack).after
 
 -- The number that opened is the last of the circle, and then the first. A Request with the next number is unexpected, and one with the number
--- before is passed over, though it is the greater one of the two.
+-- before is skipped, though it is the greater one of the two.
 opened_around_the_end :
     ((opened "9c401389050035d50100fffffffffffe0000002a" "9c4013890600272a0700ffffffffffff00000000000007d0").marks.osr ≡ 281474976710655)
     × (seen (arrives (opened "9c401389050035d50100fffffffffffe0000002a" "9c4013890600272a0700ffffffffffff00000000000007d0")

@@ -65,7 +65,7 @@ usual-handshake :
 unfolding receives opens framed
 usual-handshake = (refl, refl, refl, refl, refl, refl, refl, refl, refl, refl)
 
--- Only the client offers: the Response carries Confirms alone.
+-- Only the client offers: the Response carries only Confirms.
 only-client-offers :
     (seen (arrives listening usual_request)
     ≡ (Took None, sent "13899c400a00d2f903000000000007d000000000000003e80000002a230604010100210606010100", phase.Respond))
@@ -77,7 +77,7 @@ only-client-offers :
 unfolding receives opens framed
 only-client-offers = (refl, refl, refl, refl)
 
--- Only the server offers: the Response carries Changes alone.
+-- Only the server offers: the Response carries only Changes.
 only-server-offers :
     (seen (arrives usual_listening request)
     ≡ (Took None, sent "13899c400a00f4dd03000000000007d000000000000003e80000002a012004040101220406010000", phase.Respond))

@@ -1,5 +1,5 @@
--- Worked options of the negotiation that are not plain: values that are not valid, features and options that are not known, Mandatory
--- before them, Confirms that do not fit, options that are passed over, and more than 64 Changes.
+-- Worked options of the negotiation that are not plain: values that are not valid, features and options that are not known, Mandatory before
+-- them, Confirms that do not fit, options that are skipped, and more than 64 Changes.
 use Rattle.std.proofs.Common.{◌≡◌, refl, ℕ, zero, suc, ◌+◌, false, List, [], ◌∷◌, ◌++◌, Some, None, codes}
 use Rattle.dccp_states.specs.declared.phase.Phase.TheVariants as phase
 use Rattle.dccp_states.specs.declared.phase.Role.TheVariants.{Client, Server}
@@ -91,8 +91,8 @@ mandatory-before-invalid :
 unfolding receives opens framed
 mandatory-before-invalid = (refl, refl, refl, refl, refl, refl, refl)
 
--- An option of the negotiation without a feature number is not understood: it is passed over, and after Mandatory it is a fault,
--- also on a packet that does not negotiate, and on one that is not the newest.
+-- An option of the negotiation without a feature number is not understood: it is skipped, and after Mandatory it is a fault, also on a packet
+-- that does not negotiate, and on one that is not the newest.
 abbrev later_server : EndState
 later_server = (arrives open_server "9c4013890600233e07000000000003eb00000000000007d1").after
 
@@ -159,8 +159,8 @@ first-of-a-side :
 unfolding receives opens framed
 first-of-a-side = (refl, refl, refl, refl, refl, refl)
 
--- Confirms at a client that offers 2, 248 for its CCID. An empty one is a fault, since the feature is required, and so are a value that
--- is not the reconciliation, one that is not the value held where nothing is shared, and one alone that is on no list.
+-- Confirms at a client that offers 2, 248 for its CCID. An empty one is a fault, since the feature is required, and so are a value that is not
+-- the reconciliation, one that is not the value held if nothing is shared, and a single one that is on no list.
 abbrev ccid_client : EndState
 ccid_client = requests_as (offering (plain Client) f.Ccid Here false)
 
@@ -261,12 +261,12 @@ options-beside-data :
 unfolding receives opens framed
 options-beside-data = (refl, refl, refl, refl)
 
--- Options of so many features in a row, none of them known, from this number on: Changes without values, or empty Confirms.
+-- Options of this many features in a row, none of them known, from this number on: Changes without values, or empty Confirms.
 abbrev empty_options : ℕ → ℕ → ℕ → List ℕ
 empty_options type zero number = []
 empty_options type (suc count) number = type ∷ 3 ∷ number ∷ empty_options type count (1 + number)
 
--- After 63 of them a Change for the client's CCID is answered, and after 64 it is passed over with its Mandatory.
+-- After 63 of them a Change for the client's CCID is answered, and after 64 it is skipped with its Mandatory.
 abbrev changes_64 : List ℕ
 changes_64 = bytes (codes "9c40138936007dc501000000000003e80000002a") ++ empty_options 32 63 10 ++ bytes (codes "200401f8000000")
 
@@ -308,7 +308,7 @@ sixty-four-changes-at-client :
 unfolding receives opens framed
 sixty-four-changes-at-client = (refl, refl, refl, refl)
 
--- A Change that comes again takes up one of the 64, though it is passed over.
+-- A Change that comes again uses one of the 64, though it is skipped.
 abbrev repeated : ℕ → List ℕ
 repeated zero = []
 repeated (suc count) = 32 ∷ 3 ∷ 10 ∷ repeated count

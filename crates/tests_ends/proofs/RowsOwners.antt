@@ -1,6 +1,6 @@
--- What an owner begins with, in which phases he times packets, and which of them he hears, computed from the definitions. The values are those of
--- docs/PROTOCOL.md and of RFC 4340: an Ack Ratio of 2 (section 11.3), the phases in which the first packet of an end waits for its answer (sections
--- 8.1.1 and 8.1.3), and those in which windows judge what arrives (section 8.5, steps 5 and 6).
+-- What an owner begins with, in which phases it times packets, and which packets it gets, computed from the definitions. The values are those of
+-- docs/PROTOCOL.md and of RFC 4340: an Ack Ratio of 2 (section 11.3), the phases in which the first packet of an end waits for its answer
+-- (sections 8.1.1 and 8.1.3), and those in which windows judge what arrives (section 8.5, steps 5 and 6).
 use Rattle.std.proofs.Common.{◌≡◌, refl, ℕ, true, false, List, ◌∷◌, length, replicate, Some, None}
 use Rattle.data_dropped.specs.Drops.{drop_code}
 use Rattle.data_dropped.specs.declared.drops.DropEntry.{DropEntry}
@@ -30,7 +30,7 @@ paths_begin_at_rest :
     × ((path_begins usual_pace).near ≡ record { thousandths = 20000; since = 0 }) × ((path_begins usual_pace).far ≡ record { thousandths = 1000; since = 0 })
 paths_begin_at_rest = (refl, refl, refl, refl, refl, refl)
 
--- REQUEST and RESPOND, and OPEN alone
+-- REQUEST and RESPOND, and only OPEN
 phases_of_a_handshake :
     (is_handshake phases.Closed ≡ false) × (is_handshake phases.Listen ≡ false) × (is_handshake phases.Request ≡ true) × (is_handshake phases.Respond ≡ true)
     × (is_handshake phases.PartOpen ≡ false) × (is_handshake phases.Open ≡ false) × (is_handshake phases.CloseReq ≡ false)
@@ -64,7 +64,7 @@ which_numbers_share_a_bucket :
     × ((admitted_within (record (path_begins classic_pace) { near = record { thousandths = 999; since = 1000 } }) (Some 1001) 1001 1000).heard ≡ true)
 which_numbers_share_a_bucket = (refl, refl, refl, refl, refl, refl, refl, refl, refl)
 
--- A datagram's word counts where the datagram is heard, and the rule is followed.
+-- A datagram's word counts if the datagram is taken, and the rule is followed.
 when_a_word_counts : (word : Notice) →
     ((noticed_if true word (record { heard = true; path = usual })).path ≡ record usual { notice = word })
     × ((noticed_if true word (record { heard = false; path = record usual { notice = word } })).path ≡ usual)

@@ -1,5 +1,5 @@
--- A client and a server with a wire in each direction, as their two owners drive them: what the worked stories of sessions are about. Each call is
--- the step that its clause names; a frame that a step makes goes onto the wire, and nothing else does.
+-- A client and a server with a wire in each direction, as their two owners drive them: what the worked stories of sessions are about. Each call
+-- is the step that its clause names. A frame that a step makes is put on the wire, and nothing else is.
 use Rattle.std.specs.Prelude.{ℕ, ◌+◌, ◌-◌, zero, suc, Bool, true, false, List, [], ◌∷◌, ◌++◌, length, slice_range, Option, Some, None, is_some, Result}
 use Rattle.std.specs.List.{list_any}
 use Rattle.dccp_packets.specs.Outgoing.{Outgoing}
@@ -131,21 +131,21 @@ server_ticks_in p (Some s) = server_ticks_if (is_due p.now s.alarms) p s
 abbrev pub server_ticks : {C : Type 0} → Pair C → Pair C
 server_ticks p = server_ticks_in p p.server
 
--- so many milliseconds go by, and nothing arrives
+-- this many milliseconds go by, and nothing arrives
 abbrev pub later : {C : Type 0} → Pair C → ℕ → Pair C
 later p time = record p { now = p.now + time }
 
 abbrev pub waits : {C : Type 0} → Control C → Pair C → ℕ → Pair C
 waits control p time = server_ticks (client_ticks control (later p time))
 
--- so many go by in one turn: a frame arrives at each side, if there is one, and the timers get the time
+-- this many go by in one turn: a frame arrives at each side, if there is one, and the timers get the time
 abbrev pub client_turn : {C : Type 0} → Control C → Pair C → Pair C
 client_turn control p = client_takes control p p.to_client
 
 abbrev pub passes : {C : Type 0} → Control C → Pair C → ℕ → Pair C
 passes control p time = server_ticks (client_ticks control (client_turn control (server_takes (later p time) p.to_server)))
 
--- so many turns of 50 milliseconds go by
+-- this many turns of 50 milliseconds go by
 abbrev pub turns : {C : Type 0} → Control C → ℕ → Pair C → Pair C
 turns control zero p = p
 turns control (suc count) p = turns control count (passes control p 50)
@@ -207,10 +207,10 @@ asking control congestion service =
       got = [];
     })
 
--- What happens: the client sends a byte; the server closes; turns of 50 milliseconds, one of another length, or
--- a time in which nothing arrives; all frames to the server are lost. And what is looked at: the phases, what was delivered, how many frames
--- are on the way to the server, how long it is until the client's first timer runs out, or that alone, the wait of a timer that runs at either, the
--- codes with which they were told the end, how many packets the client may send, and whether there is a server.
+-- What happens: the client sends a byte; the server closes; turns of 50 milliseconds, one of another length, or a time in which nothing arrives;
+-- all frames to the server are lost. And what is looked at: the phases, what was delivered, how many frames are on the way to the server, how
+-- long it is until the client's first timer runs out, or only that, the wait of a timer that runs at either, the codes with which they were told
+-- the end, how many packets the client may send, and whether there is a server.
 pub data Word : Type 0 where
   Say : (byte : ℕ) → Word
   ServerCloses Lose : Word

@@ -1,4 +1,5 @@
--- Worked reports, computed from the definitions: which packets report to the congestion control, what they report, and when it is started.
+-- Worked reports, computed from the definitions: which packets report to the congestion control, what they report, and when the congestion
+-- control is started.
 use Rattle.std.proofs.Common.{◌≡◌, refl, ℕ, List, [], ◌∷◌, Some, None}
 use Prim.Native.String.{String}
 use Rattle.dccp_packets.specs.Outgoing.{bytes_sent}

@@ -1,5 +1,5 @@
--- Worked acknowledgements with as many bytes of options as two full Ack Vectors and many Confirms have, here zeros, computed from the definitions:
--- whether one has room for what an inbox has to say (RFC 4340, sections 5.1 and 5.8; the numbers were worked out by hand).
+-- Worked acknowledgements with as many bytes of options as two full Ack Vectors and many Confirms have, here zeros, computed from the
+-- definitions: whether there is room for what an inbox has to report (RFC 4340, sections 5.1 and 5.8; the numbers were worked out by hand).
 use Rattle.std.proofs.Common.{◌≡◌, refl, ℕ, ◌+◌, true, false, List, [], ◌∷◌, ◌++◌, replicate, length, Result, Ok, Err}
 use Rattle.data_dropped.specs.Frames.{drops_said}
 use Rattle.dccp_endpoint.specs.Lengthening.{lengthened_if, says_more}
@@ -23,7 +23,7 @@ last_or byte (next ∷ rest) = last_or next rest
 abbrev length_and_last : List ℕ → ℕ × ℕ
 length_and_last frame = (length frame, last_or 0 frame)
 
--- the server's Ack of 1,603 with so many bytes of options, and the frame that goes out in its place
+-- the server's Ack of 1,603 with this many bytes of options, and the frame that goes out in its place
 abbrev own_ack : ℕ → List ℕ
 own_ack count = framed (usual Server) false 2072 (Ack (Long 1603)) (replicate count 0) []
 
@@ -34,7 +34,7 @@ answered frame (Err fault) = (0, 0)
 abbrev answer : List ℕ → ℕ × ℕ
 answer frame = answered frame (decoded frame)
 
--- After a header of 24 bytes stand as many as vectors of 510 and Confirms of 229 bytes have, and three more. Data Dropped and Slow Receiver
+-- After a header of 24 bytes come as many bytes as vectors of 510 and Confirms of 229 bytes have, and three more. Data Dropped and Slow Receiver
 -- take 256: 1,020 bytes in all, and 1,024, which the Data Offset cannot say.
 room_after_options :
     (length more ≡ 256)

@@ -1,5 +1,4 @@
--- What the worked packets are seen by: bytes spelled by hexadecimal digits, what a step shows, and two ends that offer nothing, on
--- their way through a handshake.
+-- What the worked packets use: bytes spelled by hexadecimal digits, what a step shows, and two ends that offer nothing, during a handshake.
 use Rattle.std.specs.Prelude.{ℕ, ◌+◌, ◌-◌, ◌*◌, nat_le, if◌then◌else◌, Bool, true, List, [], ◌∷◌, map, slice_set, Option, Some, codes}
 use Prim.Native.String.{String}
 use Rattle.dccp_packets.specs.Outgoing.{bytes_sent}
@@ -106,7 +105,7 @@ open_server = (arrives responding client_ack).after
 abbrev pub open_client : EndState
 open_client = (arrives (arrives requesting response).after server_ack).after
 
--- what is seen of the rows: the value and stand of each, by features, here before there
+-- what is seen of the rows: the value and stand of each, by features, own ones before the peer's
 abbrev pub shown : EndState → List (ℕ × Stand)
 shown e = map (λ row. (row.value, row.stand)) e.rows
 

@@ -73,7 +73,7 @@ a_timeout_doubles_the_next_wait :
 unfolding receives opens closes prefers fires sends_payload sends_early framed until_first
 a_timeout_doubles_the_next_wait = refl
 
--- a datagram that is too long is not heard, and one that says nothing changes nothing
+-- a datagram that is too long is not taken, and one that says nothing changes nothing
 abbrev zeros : ℕ → List ℕ
 zeros count = replicate count 0
 
@@ -92,7 +92,7 @@ a_request_is_a_connection :
 unfolding receives opens closes prefers fires sends_payload sends_early framed until_first
 a_request_is_a_connection = refl
 
--- it takes none for another service, and the client hears the code Bad Service Code (RFC 4340, section 5.6)
+-- it takes none for another service, and the client gets the code Bad Service Code (RFC 4340, section 5.6)
 of_another_service_it_is_none :
     told kinds_control (asking kinds_control at_first 43)
     (Turns 1 ∷ AtServer ∷ AtCodes ∷ [])
@@ -122,7 +122,7 @@ one_packet_at_a_time :
 unfolding receives opens closes prefers fires sends_payload sends_early framed until_first
 one_packet_at_a_time = refl
 
--- it is in place of CCID 2 alone; and a wait is never nothing
+-- it replaces only CCID 2; and a wait is never zero
 own_kind_and_least_wait : (by_ones.is_known 2 ≡ true) × (by_ones.is_known 3 ≡ false) × (next_wait (record { first = 0; most = 64000 }) 0 ≡ 1)
     × (next_wait (record { first = 0; most = 64000 }) 1 ≡ 2)
 own_kind_and_least_wait = (refl, refl, refl, refl)

@@ -1,5 +1,5 @@
--- Worked packets with short numbers: where they are taken, which numbers they mean, and what they do. These ends are given the value 1 of Allow
--- Short Sequence Numbers.
+-- Worked packets with short numbers: when they are taken, which numbers they mean, and what they do. These ends have the value 1 of Allow Short
+-- Sequence Numbers.
 use Rattle.std.proofs.Common.{◌≡◌, refl, ℕ, ◌^◌, [], ◌∷◌, Some, None}
 use Rattle.std.specs.Prelude.{slice_set}
 use Prim.Native.String.{String}
@@ -70,7 +70,7 @@ abbrev standing : Stand → EndState
 standing stand =
     with_rows taking (slice_set taking.rows (index_of ShortSeqnos There) (record (row_at taking.rows ShortSeqnos There) { stand = stand }))
 
--- They are taken by the value alone, also where a change of it is under way, or one is to follow.
+-- Only the value decides that they are taken, also if a change of it is under way, or one is to follow.
 short-numbers-in-every-stand :
     (seen (arrives (standing Stable) short_ack) ≡ (Took None, None, phase.Open))
     × (seen (arrives (standing Changing) short_ack) ≡ (Took None, None, phase.Open))
@@ -85,7 +85,7 @@ what-comes-before-short-numbers :
 unfolding receives
 what-comes-before-short-numbers = (refl, refl)
 
--- An end that takes short numbers reads long ones as they stand: 1002 and 2001, each with 2^24 more, are not valid.
+-- An end that takes short numbers reads long ones as they are: 1002 and 2001, each with 2^24 more, are not valid.
 long-numbers-stand :
     (seen (arrives taking "9c4013890600223f07000000010003ea00000000000007d1")
     ≡ (Synced 16778218, sent "13899c400600183e11000000000007d200000000010003ea", phase.Open))
@@ -185,8 +185,8 @@ acknowledgement-near-gss :
 unfolding receives
 acknowledgement-near-gss = (refl, refl, refl, refl, refl, refl, refl, refl)
 
--- Both are read by the marks as they stand when the packet comes. With windows of 2^25 and 2^26, 67108869 lies 2^23 below 75497477 and is found
--- from there, but from no number after it. That is GSS in one case, where an Ack goes out with the next number, and GSR in the other.
+-- Both are read by the marks that the end has when the packet comes. With windows of 2^25 and 2^26, 67108869 lies 2^23 below 75497477 and is
+-- found from there, but from no number after it. That is GSS in one case, where an Ack goes out with the next number, and GSR in the other.
 abbrev far_below_gss : Step Outcome
 far_below_gss =
     let wide : EndState = holding AckRatio There 1 (holding SequenceWindow Here (2 ^ 25) taking) in

@@ -1,4 +1,4 @@
--- Worked packets that go out with short numbers: a negotiation whole, and which packets may have them.
+-- Worked packets that go out with short numbers: a whole negotiation, and which packets may have them.
 use Rattle.std.proofs.Common.{◌≡◌, refl, Bool, true, false, [], ◌∷◌, None, Ok}
 use Rattle.std.specs.Prelude.{slice_set}
 use Prim.Native.String.{String}

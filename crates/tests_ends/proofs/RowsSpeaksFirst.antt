@@ -1,4 +1,4 @@
--- Worked stories of a client that speaks first, and of the server that hears it (RFC 4340, section 8.1.5), each with CCID 2, computed from the definitions.
+-- Worked stories of a client that speaks first, and of its server (RFC 4340, section 8.1.5), each with CCID 2, computed from the definitions.
 -- The packets and windows were worked out by hand.
 use Rattle.std.proofs.Common.{◌≡◌, refl, true, false, [], ◌∷◌, None, Some, Ok, Err}
 use Rattle.dccp_states.specs.declared.calls.SendFault.TheVariants as sending
@@ -34,7 +34,7 @@ a_client_speaks_first :
     Hears (Took None) (sent "9c4013890a00eadd07000000000003e900000000000007d026030023060401010021060601010000") ∷
     Sends (Ok tt) (sent "9c4013890700503709000000000003ea00000000000007d026030000aa") ∷ Hears (Took (Some (32, 33))) None ∷ PhaseIs phase.Open ∷
     WindowIs 4 0 ∷ [])
-    -- Both are lost: the timer's Ack gets through, and rto takes the data out of flight, in OPEN alone
+    -- Both are lost: the timer's Ack gets through, and rto takes the data out of flight, only in OPEN
     × (story (usual Client) (Open ∷
     Packet "13899c400d00a1c303000000000007d000000000000003e80000002a230604010100210606010100012004040101220406010000" ∷ Early "aa" ∷
     Fire timers.Ack ∷ Fire timers.Rto ∷ Packet "13899c400800fa6f07000000000007d100000000000003eb260500c100000000" ∷ AtPhase ∷ AtWindow ∷

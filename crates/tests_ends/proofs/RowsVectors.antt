@@ -23,7 +23,7 @@ abbrev took : ReceivedState → List ℕ → ReceivedState
 took old [] = old
 took old (number ∷ rest) = took (marked_by old number) rest
 
--- so many numbers, from one up
+-- this many numbers, from one up
 abbrev from : ℕ → ℕ → List ℕ
 from zero number = []
 from (suc count) number = number ∷ from count (1 + number)

@@ -1,4 +1,4 @@
-//! The calls of an end with an inbox other than `receive`, each once with ample memory.
+//! The calls of an end with an inbox, except `receive`, each once with ample memory.
 use ccid_two::Kinds;
 use data_dropped::BufferedEnd;
 use dccp_endpoint::{
@@ -15,7 +15,7 @@ fn client(alloc: Global) -> Option<Client> {
     BufferedEnd::new(alloc, Config::usual(Role::Client), congestion, 1).ok()
 }
 
-// The Request goes out once, under ISS.
+// The Request goes out once, with the number ISS.
 fn opens_once(client: &mut Client, out: &mut Outbox) -> bool {
     client.open(out).is_ok()
         && sends_under(out, 1000)
@@ -38,13 +38,13 @@ fn refuses_data(client: &mut Client, out: &mut Outbox) -> bool {
         && client.send_soon(&[1], out) == Err(SendFault::NotOpen)
 }
 
-// Nor is the connection closed, or a value asked for.
+// Neither is the connection closed, nor a value asked for.
 fn refuses_the_rest(client: &mut Client, out: &mut Outbox) -> bool {
     client.close(out) == Err(CloseFault::NotOpen)
         && client.prefer(Feature::AckRatio, Place::There, &[2], out) == Err(PreferFault::NotOpen)
 }
 
-// The Request goes out again under the next number, and then the end is given up.
+// The Request goes out again with the next number, and then the end is given up.
 fn repeats_and_aborts(client: &mut Client, out: &mut Outbox) -> bool {
     client.timer(Timer::Request, out)
         && sends_under(out, 1001)

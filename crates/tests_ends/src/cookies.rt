@@ -1,5 +1,5 @@
-//! The keyed hash and the cookies, byte by byte. The hashes are test cases 1 and 2 of RFC 4231, a shorter key filled with
-//! zeros; the other values were computed by Python, over its `hmac` and `hashlib`.
+//! The keyed hash and the cookies, byte by byte. The hashes are test cases 1 and 2 of RFC 4231, where a shorter key is
+//! filled up with zeros; the other values were computed by Python, with its `hmac` and `hashlib`.
 use dccp_endpoint::{Frame, Numbers, Outbox, Pseudo, Seq48};
 use dccp_options::options;
 use init_cookies::{
@@ -27,7 +27,7 @@ const COOKIE: [u8; 40] = [
     0xd0, 0, 0, 0, 0, 0x03, 0xe8, 0, 0, 0, 0x2a, 0x20, 4, 1, 2, 0x22, 4, 6, 1,
 ];
 
-// The tag of the same opening over addresses of IPv6.
+// The tag of the same opening between addresses of IPv6.
 const SIX_TAG: [u8; 8] = [0x91, 0x99, 0xf4, 0x95, 0x8b, 0xd6, 0xa9, 0xf8];
 
 const REQUEST: [u8; 28] = [
@@ -188,7 +188,7 @@ fn returned(area: &[u8; 16]) -> CookieOption {
     option
 }
 
-// Two Init Cookies of two bytes are none; after NDP Counts the one is found.
+// Two Init Cookies of two bytes are no cookie; after NDP Counts the only one is found.
 #[test]
 fn a_client_returns_one_cookie(rt: HostRuntime) {
     let two = [36, 4, 1, 2, 36, 4, 3, 4, 0, 0, 0, 0, 0, 0, 0, 0];

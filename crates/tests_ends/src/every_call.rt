@@ -27,7 +27,7 @@ fn client() -> Option<Config> {
     Some(Config::client(addresses, ports, 42, Seq48::new(1000)?))
 }
 
-// Whether an end has taken a Request, and knows nothing of its number, which is not its own.
+// Whether an end has taken a Request, and knows nothing about a number that it did not send.
 fn takes(end: &mut Endpoint<Kinds>) -> Option<bool> {
     let frames = [Frame::of(&REQUEST)?];
     let taken = feed(end, &frames);
@@ -80,7 +80,7 @@ fn a_session_is_aborted(rt: HostRuntime) {
     assert!(rt; is_aborted(rt.alloc()) == Some(true));
 }
 
-// Sends a packet, and hears that the number 1 was received.
+// Sends a packet, and is told that the number 1 was received.
 fn hears(kind: &mut AdditiveWindow) -> Option<bool> {
     if !kind.may_send() {
         return None;

@@ -1,5 +1,5 @@
-//! Calls of feature_lists by themselves: `usual_values`, which no other crate makes, and some that feature_machine makes.
-//! All others, and those of feature_machine, the end makes.
+//! Single calls of feature_lists: `usual_values`, which no other crate calls, and some that feature_machine makes. The
+//! end makes all others, and those of feature_machine.
 use feature_lists::{Feature, Place, reconcile};
 use std::test::Fail;
 

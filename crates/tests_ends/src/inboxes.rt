@@ -1,4 +1,4 @@
-//! Calls of an inbox by itself: what a report of drops has. Other lists of calls are worked rows of
+//! Calls of a single inbox: what a report of drops has. Other lists of calls are worked rows of
 //! proofs/RowsInboxes.antt.
 use data_dropped::{Arrival, DropBytes, Inbox};
 use seq_circle::Seq48;
@@ -25,14 +25,14 @@ fn takes(inbox: &mut Inbox, number: u64) -> Option<bool> {
     Some(taken == Seq48::new(number)? && count == 4 && into.starts_with(b"data"))
 }
 
-// 20 without a drop, and then 17 numbers with code 2.
+// The number 20 without a drop, and then 17 numbers with code 2.
 fn reports(inbox: &Inbox) -> Option<bool> {
     let mut out = DropBytes::new();
     let is_whole = inbox.write(&mut out, Seq48::new(20)?);
     Some(is_whole && out.as_slice() == [0x00, 0xaf, 0xa0].as_slice())
 }
 
-// The report is the same before and after both items are taken; the inbox is slow before alone.
+// The report is the same before and after both items are taken; the inbox is slow only before.
 fn is_emptied(inbox: &mut Inbox) -> Option<bool> {
     let before = fills(inbox)? && inbox.slow() && reports(inbox)?;
     let taken = takes(inbox, 1)? && takes(inbox, 2)?;

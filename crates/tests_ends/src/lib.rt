@@ -1,9 +1,10 @@
-//! The tests of what has an end, on their public calls: feature_lists, feature_machine, dccp_endpoint and two_ends, with worked examples that no
-//! schedule or replay of examples/ can say; and what the owner of an end has, data_dropped and dccp_uses. What a definition gives is a worked
-//! row of proofs/, computed from the definitions; run is each public call that no program makes, once, and what only many calls show. They are
-//! in a crate of their own since a crate with tests is proved twice, with them and without; and in one, except for those of a server
-//! (tests_server), since each crate over an end loads its statements anew. Their values come from the standard, were worked out by hand or by a
-//! second implementation, and never by this program.
+//! The tests of the crates of an end, on their public calls: feature_lists, feature_machine, dccp_endpoint and
+//! two_ends, with worked examples that no schedule or replay of examples/ can say; and the crates for the owner of an
+//! end, data_dropped and dccp_uses. What a definition gives is a worked row of proofs/, computed from the definitions.
+//! The tests that run are each public call that no program makes, once, and what only many calls show. They are in a
+//! separate crate because a crate with tests is proved twice, with them and without; and all except those of a server
+//! (tests_server) are in one crate, because each crate over an end loads its statements anew. Their values come from
+//! the standard, or were worked out by hand or by a second implementation, and never by this program.
 #![tactic(auto)]
 
 #[cfg(test)]

@@ -1,4 +1,4 @@
-//! Datagrams of two peers at a listener with room for one flow, by its calls. The frames are those of `full_listener` of
+//! Calls of a listener with room for one flow: datagrams of two peers. The frames are those of `full_listener` of
 //! examples/.
 use arrayvec::ArrayVec;
 use dccp_endpoint::{Lists, Outbox, Outcome, Phase, Seq48};

@@ -1,7 +1,7 @@
-//! A step that is refused memory changes nothing, and made again it gives what it would have given at first.
+//! A step that gets no memory changes nothing. When it is made again, it gives what it would have given at first.
 //!
-//! Each event of the plain handshake is tried again after NoMemory. Its frames and both ends are those of the handshake
-//! then, as `handshake` of examples/ has them. Where memory is ample no step is refused; `tools/refusals` refuses each
+//! Each event of the plain handshake is tried again after NoMemory. Its frames and both ends are then those of the
+//! handshake, as `handshake` of examples/ has them. With ample memory no step is refused; `tools/refusals` refuses each
 //! allocation in turn.
 ghost use Rattle.std.specs.Prelude.{◌≡◌};
 
@@ -13,7 +13,7 @@ use std::alloc::Global;
 use std::test::Fail;
 use two_ends::{Event, Seen, SentFrame, Side, World, WorldFault};
 
-// How often something is tried that may be refused memory. One allocation is refused in a run.
+// How often something is tried that may get no memory. One allocation is refused in a run.
 const TRIES: usize = 3;
 
 // An end that offers nothing.
@@ -33,7 +33,7 @@ fn new_world(alloc: Global) -> Result<World<Kinds>, NoMemory> {
     World::new(alloc, client, server, for_client, for_server)
 }
 
-// What is seen of an event, which is tried again where memory is refused.
+// What is seen of an event, which is tried again if memory is refused.
 fn repeat(world: &mut World<Kinds>, event: &Event) -> Option<Seen> {
     for _ in 0..TRIES {
         match world.step(event) {
@@ -98,7 +98,7 @@ fn are_frames(sent: &[SentFrame], frames: &[&[u8]; 2]) -> bool {
     }
 }
 
-// The value of each feature from 1 on, the same here and there.
+// The value of each feature from 1 on, the same at both ends.
 const VALUES: [(Feature, u64); 9] = [
     (Feature::Ccid, 2),
     (Feature::ShortSeqnos, 0),

@@ -22,8 +22,8 @@ const DATA: [u8; 17] = [
     0x9c, 0x40, 0x13, 0x89, 4, 0, 0, 0, 5, 0, 0, 0, 0, 0, 0, 0, 0xaa,
 ];
 
-// Changes of Minimum Checksum Coverage, CCID, Send Ack Vector and ECN Incapable at either place, and of Sequence
-// Window: their Confirms have 24, 12, 11, 11 and 9 bytes.
+// Changes of Minimum Checksum Coverage, CCID, Send Ack Vector and ECN Incapable at both ends, and of Sequence Window:
+// their Confirms have 24, 12, 11, 11 and 9 bytes.
 const CHANGES: [u8; 41] = [
     34, 4, 8, 0, 32, 4, 8, 0, 34, 4, 1, 2, 32, 4, 1, 2, 34, 4, 6, 1, 32, 4, 6, 1, 34, 4, 4, 1, 32,
     4, 4, 1, 32, 9, 3, 0, 0, 0, 0, 0, 100,
@@ -56,7 +56,7 @@ fn receive(server: &mut Server, bytes: &[u8], out: &mut Outbox) -> Option<()> {
     Some(())
 }
 
-// Every second number from 1003 on arrives with data, of which the first is held and the others are dropped.
+// Every second number from 1003 on arrives with data. The first data are held, and the others are dropped.
 fn drop_many(server: &mut Server, out: &mut Outbox) -> Option<()> {
     for number in (1003_u64..1603).step_by(2) {
         let mut data = DATA;
@@ -68,7 +68,7 @@ fn drop_many(server: &mut Server, out: &mut Outbox) -> Option<()> {
     Some(())
 }
 
-// Puts an Ack with these Changes and so many more, of features that nobody knows: 3 bytes each in the answer.
+// Puts an Ack with these Changes and this many more, for unknown features: 3 bytes each in the answer.
 fn put_changes(bytes: &mut Bytes, unknown: u8) -> Option<()> {
     bytes.try_extend_from_slice(&ACK).ok()?;
     bytes.try_extend_from_slice(&CHANGES).ok()?;
@@ -99,7 +99,7 @@ fn set_header(bytes: &mut Bytes) -> Option<()> {
     Some(())
 }
 
-// Opens the connection, and lets many data come.
+// Opens the connection, and lets many data packets arrive.
 fn begin(server: &mut Server, out: &mut Outbox) -> Option<()> {
     receive(server, &REQUEST, out)?;
     receive(server, &ACK, out)?;
@@ -112,7 +112,7 @@ fn length_and_last(out: &Outbox) -> Option<(usize, u8)> {
     Some((bytes.len(), *bytes.last()?))
 }
 
-// The same of what this server answers in the end.
+// The same for the last answer of this server.
 fn answered(server: &mut Server, unknown: u8) -> Option<(usize, u8)> {
     let mut out = Outbox::new();
     begin(server, &mut out)?;
@@ -122,14 +122,14 @@ fn answered(server: &mut Server, unknown: u8) -> Option<(usize, u8)> {
     length_and_last(&out)
 }
 
-// The same of a new server, which so many Changes of unknown features reach.
+// The same for a new server, when this many Changes of unknown features arrive.
 fn answer(alloc: Global, unknown: u8) -> Option<(usize, u8)> {
     let mut server = server(alloc)?;
     answered(&mut server, unknown)
 }
 
-// After a header of 24 bytes and vectors of 510 there are Confirms of 229 bytes, and with one more of 232. Data
-// Dropped and Slow Receiver take 256: 1,020 bytes in all, and 1,024, which the Data Offset cannot say.
+// After a header of 24 bytes and vectors of 510 there are Confirms of 229 bytes, or of 232 with one more. Data Dropped
+// and Slow Receiver take 256. Together these are 1,020 bytes, or 1,024, which the Data Offset cannot say.
 #[test]
 fn room_for_a_report(rt: HostRuntime) {
     assert!(rt; answer(rt.alloc(), 54) == Some((1020, 2)), "room for it");

@@ -1,5 +1,5 @@
-//! Short numbers at an end with an inbox. Their low 24 bits begin anew among the data, and so the data that are dropped are reported under whole
-//! numbers, of the frame that brought them and of the frame that reports them.
+//! Short numbers at an end with an inbox. Their low 24 bits wrap around among the data. So dropped data are reported by
+//! full numbers: that of the frame that brought them, and that of the frame that reports them.
 use ccid_two::Kinds;
 use data_dropped::{Arrival, BufferedEnd};
 use dccp_endpoint::{Config, Feature, Outbox, Place, Role};
@@ -8,7 +8,7 @@ use std::test::Fail;
 
 type Server = BufferedEnd<Kinds>;
 
-// What arrives, what becomes of its data, and the frame that goes out then, which has no bytes where none does.
+// What arrives, what becomes of its data, and the frame that then goes out, which has no bytes if none does.
 const STORY: [(&[u8], Option<Arrival>, &[u8]); 6] = [
     // A Request that asks for short numbers in both directions, and the Response with both Confirms.
     (
@@ -41,7 +41,7 @@ const STORY: [(&[u8], Option<Arrival>, &[u8]); 6] = [
         Some(Arrival::Kept),
         &[],
     ),
-    // Data 2^24 + 1: the Ack of that number reports code 2 of it, and that the receiver is slow.
+    // Data 2^24 + 1: the Ack of that number reports it with code 2, and that the receiver is slow.
     (
         &[0x9c, 0x40, 0x13, 0x89, 3, 0, 0x7a, 3, 4, 0, 0, 1, 0xbb],
         Some(Arrival::Dropped(2)),
@@ -55,7 +55,7 @@ const STORY: [(&[u8], Option<Arrival>, &[u8]); 6] = [
         Some(Arrival::Dropped(2)),
         &[],
     ),
-    // Data 2^24 + 3: code 2 of these three.
+    // Data 2^24 + 3: code 2 for these three.
     (
         &[0x9c, 0x40, 0x13, 0x89, 3, 0, 0x58, 1, 4, 0, 0, 3, 0xdd],
         Some(Arrival::Dropped(2)),
@@ -65,7 +65,7 @@ const STORY: [(&[u8], Option<Arrival>, &[u8]); 6] = [
     ),
 ];
 
-// A server that offers nothing, and takes and sends short numbers where it is asked.
+// A server that offers nothing, and takes and sends short numbers if it is asked to.
 fn config() -> Option<Config> {
     let mut config = Config::usual(Role::Server);
     config.plain();
@@ -85,7 +85,7 @@ fn sends(out: &Outbox, bytes: &[u8]) -> bool {
     }
 }
 
-// Whether a frame arrives so, and this is sent then.
+// Whether a frame arrives with this result, and this is then sent.
 fn comes(
     server: &mut Server,
     out: &mut Outbox,

@@ -1,5 +1,5 @@
-//! Ack Vectors in one option and in two, of an end that has received every second number from 0 to 504: each is reported by a separate byte, and
-//! so is each that lies between two.
+//! Ack Vectors in one option and in two, of an end that has received every second number from 0 to 504: each is
+//! reported by a separate byte, and so is each number between two.
 use ccid_two::Kinds;
 use dccp_endpoint::{Config, Endpoint, Frame, NoMemory, Outbox, Role, Timer, Vectors, seal_frame};
 use dccp_options::kinds::ACK_VECTOR_0;
@@ -59,7 +59,7 @@ fn vector_of(option: &Opt<'_>) -> Option<Vector> {
     (option.kind == ACK_VECTOR_0).then_some((option.body.len(), first))
 }
 
-// The first Ack Vector of a frame and the last of any further ones.
+// The first Ack Vector of a frame, and the last one if there are more.
 fn vectors_of(frame: &[u8]) -> Option<(Option<Vector>, Option<Vector>)> {
     let Ok(packet) = decode(frame) else {
         return None;
@@ -82,7 +82,7 @@ fn vectors_of(frame: &[u8]) -> Option<(Option<Vector>, Option<Vector>)> {
     Some((first, last))
 }
 
-// Those of the Ack that goes out by its timer then.
+// The vectors of the Ack that its timer then sends.
 fn acknowledges(server: &mut Endpoint<Kinds>) -> Option<(Option<Vector>, Option<Vector>)> {
     let mut out = Outbox::new();
     receive_each(server, &mut out)?;

@@ -1,11 +1,11 @@
-//! Sessions over a network that loses so many frames in a row in each direction, and then none: when each goal is
+//! Sessions over a network that loses a number of frames in a row in each direction, and then none: when each goal is
 //! reached, in milliseconds.
 //!
-//! The times are worked out by hand from the waits under `Pace::classic()`, each of which is twice the one before: 1,000
-//! for a Request, a Change and a report, 200 for an Ack, 400 for a Close. A turn takes 50. What arrives at the server in
-//! a turn and is answered arrives at the client in the same turn. Both are OPEN two turns after a Request that arrives
-//! and whose Response does; the client's timers ack and negotiate run from the first of these turns, the server's from
-//! the second.
+//! The times are worked out by hand from the waits under `Pace::classic()`, each of which is twice the one before:
+//! 1,000 for a Request, a Change and a report, 200 for an Ack, 400 for a Close. A turn takes 50. What arrives at the
+//! server in a turn and is answered arrives at the client in the same turn. Both are OPEN two turns after a Request
+//! that arrives and whose Response arrives; the client's timers ack and negotiate run from the first of these turns,
+//! the server's from the second.
 use crate::uses::pair::Pair;
 use ccid_two::Kinds;
 use dccp_endpoint::{Config, Feature, Held, Phase, Role, Stand};
@@ -20,7 +20,7 @@ enum Goal {
     Closed(Role),
 }
 
-// Opened: with k lost the first Request that arrives is the k+1st, and as many Responses are lost then. So the 2k+1st
+// Opened: with k lost, the first Request that arrives is the k+1st, and then as many Responses are lost. So the 2k+1st
 // Request opens, after waits of 1,000, 2,000 and so on, up to 64,000.
 //
 // Settled: the Change goes out at once, and again 1,000, 2,000 and 4,000 later, since `prefer` begins the timer negotiate
@@ -30,10 +30,10 @@ enum Goal {
 // Delivered: a packet goes out each turn. With 5 lost four packets fill the window, and the fifth frame is an Ack. After
 // 1,000 the timer rto empties it, and the next packet arrives.
 //
-// Closed: the k+1st Close arrives, after 400, 800 and so on. By then as many Acks of the other end's timer are lost as
-// may be, so its answer arrives. A server's CloseReq is answered by a Close, which takes a turn more.
+// Closed: the k+1st Close arrives, after 400, 800 and so on. By then k Acks of the other end's timer are lost, so its
+// answer arrives. A server's CloseReq is answered by a Close, which takes a turn more.
 //
-// Each is a goal, how many frames are lost in a row in each direction, and when it is reached.
+// Each row is a goal, how many frames are lost in a row in each direction, and when the goal is reached.
 const STORIES: [(Goal, usize, u64); 15] = [
     (Goal::Opened, 1, 3_100),
     (Goal::Opened, 2, 15_100),
@@ -69,7 +69,7 @@ fn is_reached(pair: &Pair, goal: Goal) -> bool {
     }
 }
 
-// What an owner does for its goal at first, over wires that lose frames from then on.
+// What an owner first does for its goal, over wires that lose frames from then on.
 fn begins(pair: &mut Pair, goal: Goal, lost: usize) -> bool {
     match goal {
         Goal::Opened => {
@@ -94,7 +94,7 @@ fn begins(pair: &mut Pair, goal: Goal, lost: usize) -> bool {
     }
 }
 
-// A turn, before which data are offered where they are the goal.
+// A turn. Before it, data are offered if they are the goal.
 fn goes_on(pair: &mut Pair, goal: Goal) -> bool {
     match goal {
         Goal::Delivered => pair.send(&[7]).is_some() && pair.turn(),
@@ -102,7 +102,7 @@ fn goes_on(pair: &mut Pair, goal: Goal) -> bool {
     }
 }
 
-// When the goal is reached, from its beginning on.
+// How long the goal takes from the beginning on.
 fn time_of(pair: &mut Pair, goal: Goal, lost: usize) -> Option<u64> {
     let start = pair.now();
     if !begins(pair, goal, lost) {
@@ -123,7 +123,7 @@ fn time_of(pair: &mut Pair, goal: Goal, lost: usize) -> Option<u64> {
     None
 }
 
-// This function alone owns a pair.
+// Only this function owns a pair.
 fn measured(alloc: Global, goal: Goal, lost: usize) -> Option<u64> {
     let Ok(congestion) = Kinds::new(alloc) else {
         return None;

@@ -1,5 +1,6 @@
-//! Sessions of which one holds what arrives in an inbox, in counted time. A turn of 50 milliseconds is a round trip. The
-//! inbox has room for eight packets; its owner reads none, or two a turn, or listens no more, and closes in the end.
+//! Sessions, one of which holds what arrives in an inbox, in counted time. A turn of 50 milliseconds is a round trip.
+//! The inbox has room for eight packets; its owner reads none, or two a turn, or no longer listens, and closes at the
+//! end.
 use crate::uses::wire::Wire;
 use ccid_two::Kinds;
 use data_dropped::Intake;
@@ -13,8 +14,8 @@ const TURN: u64 = 50;
 // How many packets the inbox holds.
 const CAPACITY: u16 = 8;
 
-// What the reader's owner was told: how many packets wait or waited, how many were dropped and with which code the last,
-// how many came in another way, and the code with which the connection has ended.
+// What the reader's owner was told: how many packets wait or waited, how many were dropped and the code of the last
+// drop, how many came in another way, and the code with which the connection has ended.
 #[derive(Clone, Copy)]
 struct ReaderNews {
     waited: u32,
@@ -88,7 +89,7 @@ impl Pair {
         let _ = self.sender.arrived(datagram, self.now, &mut self.to_reader);
     }
 
-    // A turn goes by: what is on its way arrives, and both are told what is due.
+    // A turn goes by: what is on its way arrives, and both sides are given what is due.
     fn turn(&mut self) {
         self.now = self.now.saturating_add(TURN);
         for _ in 0..80 {
@@ -117,7 +118,7 @@ impl Pair {
         opened && self.sender.end().phase() == Phase::Open
     }
 
-    // One packet of one byte, which counts them.
+    // One packet with one byte, which counts the packets.
     fn send(&mut self) -> Result<(), SendRefusal> {
         let payload = [self.sent];
         self.sender.send(&payload, self.now, &mut self.to_reader)?;
@@ -125,7 +126,7 @@ impl Pair {
         Ok(())
     }
 
-    // What waits first, and its length.
+    // The first byte of what waits first, and its length.
     fn take(&mut self) -> Option<(u8, usize)> {
         let mut into = [0; 2_032];
         let (_, length) = self.reader.read(&mut into)?;
@@ -133,7 +134,7 @@ impl Pair {
         Some((into[0], length))
     }
 
-    // Turns go by in each of which the sender offers up to 64 packets, and its peer's owner reads so many.
+    // Turns go by. In each, the sender offers up to 64 packets, and its peer's owner reads this many.
     fn stream(&mut self, turns: u32, reads: u32) {
         for _ in 0..turns {
             for _ in 0..64 {
@@ -156,8 +157,8 @@ impl Pair {
     }
 }
 
-// Nobody reads: the first eight packets wait, each further one is dropped for want of room (RFC 4340, section 11.7, code
-// 2), and the sender's window is down to one.
+// Nobody reads: the first eight packets wait, each further one is dropped for lack of room (RFC 4340, section 11.7,
+// code 2), and the sender's window goes down to one.
 fn fills(pair: &mut Pair) -> bool {
     pair.stream(40, 0);
     pair.told.waited == 8
@@ -165,7 +166,7 @@ fn fills(pair: &mut Pair) -> bool {
         && (pair.reader.held() == 8 && pair.most() == Some(1))
 }
 
-// They are read whole, in their order, and then none.
+// These are read whole, in their order, and then none.
 fn reads(pair: &mut Pair) -> bool {
     for number in 0..8 {
         if pair.take() != Some((number, 1)) {
@@ -183,7 +184,7 @@ fn follows(pair: &mut Pair) -> bool {
     700 <= read && pair.most().is_some_and(|most| (2..=8).contains(&most))
 }
 
-// The owner listens no more: what arrives is dropped with code 1, and the sender sends no more.
+// The owner no longer listens: what arrives is dropped with code 1, and the sender stops sending.
 fn stops(pair: &mut Pair) -> bool {
     pair.stream(4, 0);
     let stopped = pair.reader.stop();
@@ -191,7 +192,7 @@ fn stops(pair: &mut Pair) -> bool {
     stopped && pair.told.code == 1 && pair.send() == Err(SendRefusal::Held(Restraint::NotListening))
 }
 
-// The sender closes in order, and what waits is read after the end. Nothing came in another way.
+// The sender closes properly, and what waits is read after the end. Nothing came in another way.
 fn closes(pair: &mut Pair) -> bool {
     let held = pair.reader.held();
     let closed = pair.sender.close(pair.now, &mut pair.to_reader).is_ok();

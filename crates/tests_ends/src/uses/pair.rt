@@ -1,5 +1,5 @@
-//! A client and a server with a wire in each direction, as their two owners drive them. Where a call answers a bool, it
-//! is whether the step went as it has to.
+//! A client and a server with a wire in each direction, as their two owners drive them. If a call returns a bool, it
+//! says whether the step had its expected result.
 use crate::uses::wire::Wire;
 use ccid_two::Kinds;
 use dccp_endpoint::{Config, Feature, Held, Phase, Place, Role, SendFault, Timer};
@@ -9,8 +9,8 @@ use std::alloc::Global;
 // How many milliseconds a turn takes.
 const TURN: u64 = 50;
 
-// A client, the server's session once there is one, the code with which each was told that the connection has ended,
-// and what was delivered to the server.
+// A client, the server's session if there is one, the code with which each was told that the connection has ended, and
+// what was delivered to the server.
 #[derive(Drop)]
 pub(crate) struct Pair {
     alloc: Global,
@@ -24,7 +24,7 @@ pub(crate) struct Pair {
     pub(crate) got: Vec<u8>,
 }
 
-// A server's session, where a stranger's datagram opens a connection.
+// A server's session, if a stranger's datagram opens a connection.
 fn accepted(alloc: Global, datagram: &[u8], now: u64, wire: &mut Wire) -> Option<Session<Kinds>> {
     let Ok(congestion) = Kinds::new(alloc) else {
         return None;
@@ -55,14 +55,14 @@ fn wait_in(alarms: &Alarms, timer: Timer) -> Option<u64> {
 }
 
 impl Pair {
-    /// This client, and a wire in each direction, which loses by draws from this number.
+    /// This client, and a wire in each direction that loses frames by draws from this number.
     pub(crate) fn new(alloc: Global, client: Session<Kinds>, seed: u64) -> Pair {
         let to_server = Wire::drawn(alloc, seed);
         let to_client = Wire::drawn(alloc, seed.wrapping_add(1_000));
         Pair::over(alloc, client, to_server, to_client)
     }
 
-    /// This client, and a wire in each direction, which loses nothing.
+    /// This client, and a wire in each direction that loses nothing.
     pub(crate) fn whole(alloc: Global, client: Session<Kinds>) -> Pair {
         Pair::over(alloc, client, Wire::whole(alloc), Wire::whole(alloc))
     }
@@ -81,7 +81,7 @@ impl Pair {
         }
     }
 
-    /// From now on each wire loses so many frames in a row, and then none.
+    /// From now on each wire loses this many frames in a row, and then none.
     pub(crate) fn lose(&mut self, frames: usize) {
         self.to_server.lose(frames);
         self.to_client.lose(frames);
@@ -204,7 +204,8 @@ impl Pair {
         }
     }
 
-    /// The client sends data if there is room: whether they went out. None where they may not be sent at all.
+    /// The client sends data if there is room, and returns whether they went out. None means that they may not be sent
+    /// at all.
     pub(crate) fn send(&mut self, payload: &[u8]) -> Option<bool> {
         match self.client.send(payload, self.now, &mut self.to_server) {
             Ok(()) => Some(true),
@@ -217,7 +218,7 @@ impl Pair {
         }
     }
 
-    /// The wait of a timer of this side, if it runs.
+    /// How long a timer of this side still waits, if it runs.
     pub(crate) fn wait_of(&self, role: Role, timer: Timer) -> Option<u64> {
         match (role, &self.server) {
             (Role::Client, _) => wait_in(self.client.alarms(), timer),
@@ -234,7 +235,7 @@ impl Pair {
         }
     }
 
-    /// The client asks for an own feature.
+    /// The client asks for a value of its own feature.
     pub(crate) fn prefer(&mut self, feature: Feature, values: &[u64]) -> bool {
         self.client
             .prefer(feature, Place::Here, values, self.now, &mut self.to_server)

@@ -1,7 +1,6 @@
-//! Sessions over wires in memory. What is looked at is what an owner sees: phases, news, data and the values of
-//! features.
+//! Sessions over wires in memory. The tests look at what an owner sees: phases, news, data and the values of features.
 //!
-//! A story is told by a function that borrows its pair. A test holds no pair: the proof of a loop that does takes many
+//! A story is a function that borrows its pair. A test holds no pair: the proof of a loop that holds one takes many
 //! times as long.
 use crate::uses::pair::Pair;
 use ccid_two::Kinds;
@@ -21,7 +20,7 @@ fn stays_open(pair: &mut Pair) -> bool {
     pair.go_on(20) && pair.are(Phase::Open)
 }
 
-// Sixty payloads are offered while the turns go by, each of one byte with its number: how many went out.
+// Sixty payloads are offered while the turns go by, each of one byte with its number; returns how many went out.
 fn sends_sixty(pair: &mut Pair) -> Option<u8> {
     let mut next = 0u8;
     for _ in 0..200 {
@@ -43,7 +42,7 @@ fn times_in(got: &[u8], number: u8) -> usize {
     got.iter().filter(|other| **other == number).count()
 }
 
-// None comes twice, and none that was not sent. Three of four frames get through.
+// No payload comes twice, and none that was not sent. Three of four frames get through.
 fn are_once(got: &[u8], sent: u8) -> bool {
     for number in got {
         if sent <= *number || times_in(got, *number) != 1 {
@@ -60,12 +59,12 @@ fn delivers_once(pair: &mut Pair) -> bool {
     }
 }
 
-// Where the Reset that answers the client's Close is lost, its next Close finds no connection: code 3.
+// If the Reset that answers the client's Close is lost, the next Close finds no connection: code 3.
 fn has_ended(pair: &Pair) -> bool {
     matches!(pair.client_ended, Some(1 | 3)) && pair.server_ended == Some(1)
 }
 
-// TIMEWAIT is over two lifetimes of a segment later.
+// TIMEWAIT ends after two lifetimes of a segment.
 fn closes(pair: &mut Pair, role: Role) -> bool {
     pair.close(role)
         && pair.go_on(300)
@@ -98,7 +97,7 @@ fn holds(pair: &mut Pair, story: Story) -> bool {
         }
 }
 
-// This function alone owns a pair.
+// Only this function owns a pair.
 fn is_true(alloc: Global, seed: u64, story: Story) -> bool {
     let Ok(congestion) = Kinds::new(alloc) else {
         return false;
@@ -122,7 +121,7 @@ const STORIES: [(&str, Story); 5] = [
     ("a feature is renegotiated", Story::Renegotiation),
 ];
 
-// The first story that is amiss over wires with draws from this number.
+// The first story that fails over wires with draws from this number.
 fn first_amiss(alloc: Global, seed: u64) -> Option<&'static str> {
     for (name, story) in &STORIES {
         if !is_true(alloc, seed, *story) {

@@ -2,12 +2,12 @@
 use dccp_uses::Network;
 use std::alloc::Global;
 
-// What a wire loses, and in which order it gives the rest.
+// Which frames a wire loses, and in which order it gives the others.
 #[derive(Clone, Copy)]
 enum Loss {
-    // One frame of four, and any order, by draws.
+    // It loses one frame of four, and gives the others in any order, by draws.
     Drawn(u64),
-    // So many frames more, and then none; in order.
+    // It loses this many more frames, and then none; in order.
     Next(usize),
 }
 
@@ -46,7 +46,7 @@ impl Wire {
         }
     }
 
-    /// From now on it loses the next frames, so many, and then none.
+    /// From now on it loses this many frames, and then none.
     pub(crate) fn lose(&mut self, frames: usize) {
         self.loss = Loss::Next(frames);
     }
@@ -90,7 +90,7 @@ impl Wire {
 }
 
 impl Network for Wire {
-    // It does not say what it loses.
+    // The wire does not say what it loses.
     ghost sends = { λ _ _ _. Unit {0} };
 
     fn send(&mut self, frame: &[u8]) {
