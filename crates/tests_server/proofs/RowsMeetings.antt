@@ -20,11 +20,11 @@ use Rattle.dccp_server.specs.declared.meeting.DatagramKind.TheVariants as entry
 use Rattle.dccp_server.specs.declared.meeting.Way.TheVariants as way
 use Rattle.dccp_server.specs.declared.queue.Ticket.{Ticket}
 
--- a Request at 1000, with so many bytes of options, and what its cookie holds
+-- a Request at 1000, with this many bytes of options, and what its cookie holds
 abbrev opening : ℕ → OpeningState
 opening count = record { time = 1000; iss = 7000; number = 99; service = 42; options = replicate count 0 }
 
--- A cookie has room for 220 bytes of options, so that it fits its option. A Request alone asks for one, and has long numbers.
+-- A cookie has room for 220 bytes of options, so that it fits its option. Only a Request asks for one, and it has long numbers.
 what_is_asked_for :
     (asking_this 1000 7000 (replicate 220 0) 99 42 ≡ asking.This (opening 220))
     × (asking_this 1000 7000 (replicate 221 0) 99 42 ≡ asking.TooLong)
@@ -38,7 +38,7 @@ what_is_asked_for :
     × (entry_or (entry.Asks (opening 0)) None ≡ entry.Asks (opening 0))
 what_is_asked_for = (refl, refl, refl, refl, refl, refl, refl, refl, refl, refl, refl)
 
--- Cookies are used never, in a crowd, or always; and a flow is half open in RESPOND alone.
+-- Cookies are used never, in a crowd, or always; and a flow is half open only in RESPOND.
 when_cookies_are_used :
     (is_in_use cookies.Never true ≡ false) × (is_in_use cookies.InACrowd false ≡ false) × (is_in_use cookies.InACrowd true ≡ true)
     × (is_in_use cookies.Always false ≡ true)

@@ -46,7 +46,7 @@ limits_of_stages :
 limits_of_stages =
     (refl, refl, refl, refl, refl, refl, refl, refl, refl, refl, refl, refl, refl, refl, refl, refl, refl, refl)
 
--- What was told of a call: where no end stood it was refused; packets were taken, and brought data or none.
+-- What was noted of a call: without an end it was refused; packets were taken, and brought data or none.
 what_was_told :
     (is_refusal (Stepped None) ≡ true) × (is_refusal (Stepped (Some (Received (Took None)))) ≡ false) × (is_refusal WasBusy ≡ false)
     × (is_refusal HadNoMemory ≡ false)

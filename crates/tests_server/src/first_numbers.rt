@@ -1,4 +1,4 @@
-//! The first number of a flow, by the call that draws it.
+//! The call that draws the first number of a flow.
 use dccp_endpoint::Seq48;
 use dccp_listener::Peer;
 use dccp_server::keyed_number;

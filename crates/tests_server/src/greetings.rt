@@ -1,4 +1,4 @@
-//! A server that keeps nothing of a Request, and a client that returns its cookie: by the calls of both.
+//! Calls of a server that keeps nothing of a Request, and of a client that returns its cookie.
 ghost use Rattle.std.specs.Prelude.{IfSome};
 ghost use Rattle.dccp_listener.specs.Standing.{IsListening};
 
@@ -20,7 +20,7 @@ fn peer(last: u8) -> Peer {
     }
 }
 
-// Of a server of one service, with room for two flows.
+// The configuration of a server of one service, with room for two flows.
 fn config() -> Option<ListenConfig>
     ensures listens { IfSome result IsListening }
 {
@@ -46,7 +46,7 @@ fn frame_in(out: &Outbox) -> Option<Frame> {
     Frame::of(out.frame()?.bytes())
 }
 
-// What a client returns of a Response.
+// The options that a client returns for a Response.
 fn cookie_of(response: &[u8]) -> CookieOption {
     let mut option = CookieOption::new();
     if let Ok(packet) = decode(response) {
@@ -62,7 +62,7 @@ fn is_open(server: &Server, peer: Peer) -> bool {
     }
 }
 
-// How a datagram is met.
+// How a server meets a datagram.
 fn met(server: &mut Server, last: u8, bytes: &[u8], now: u64, out: &mut Outbox) -> Option<Way> {
     if 2044 < bytes.len() {
         return None;
@@ -89,7 +89,7 @@ fn greeting(server: &mut Server, request: &[u8], out: &mut Outbox) -> Option<Fra
     frame_in(out)
 }
 
-// The client's Ack with the cookie of this Response.
+// The client's Ack that returns the cookie of this Response.
 fn returned(client: &mut Endpoint<Kinds>, response: &[u8], out: &mut Outbox) -> Option<Frame> {
     if 2044 < response.len() {
         return None;
@@ -114,7 +114,7 @@ fn acked(alloc: Global, server: &mut Server, out: &mut Outbox) -> Option<Frame> 
     exchanged(&mut client(alloc)?, server, out)
 }
 
-// A stranger gains nothing by the cookie, nor does who comes late, and the Ack opens a flow.
+// A cookie is no use to a stranger or after its time, and the Ack opens a flow.
 fn opens_by(server: &mut Server, ack: &[u8], out: &mut Outbox) -> Option<bool> {
     let stolen = met(server, 3, ack, 150, out)?;
     let late = met(server, 1, ack, 120_101, out)?;
@@ -153,7 +153,7 @@ const REQUESTS: [[u8; 20]; 3] = [
     ],
 ];
 
-// Of a table of two one may be half open without a crowd: the third stranger is greeted.
+// In a table of two flows, one may be half open without a crowd: the third stranger is greeted.
 fn greets_third(server: &mut Server) -> Option<bool> {
     let mut out = Outbox::new();
     let first = met(server, 1, &REQUESTS[0], 100, &mut out)?;

@@ -1,4 +1,4 @@
-//! The tests of dccp_server, on its public calls. They are in a crate of their own, so that those over ends and their
+//! The tests of dccp_server, on its public calls. They are in a separate crate, so that the tests of ends and their
 //! owners (tests_ends) need no server.
 #![tactic(auto)]
 
