@@ -1,4 +1,4 @@
--- When a cookie is good, and what one that is good has.
+-- When a cookie is good, and what a good cookie has.
 use Rattle.std.proofs.Common.{◌≡◌, ℕ, ◌+◌, ◌-◌, ◌<◌, ◌≤◌, ◌==◌, ◌&&◌, nat_le, nat_lt, Bool, true, false, List, length, drop, Option, Some, None, if◌then◌else◌, refl, sym, subst, ◌∙◌, arith}
 use Rattle.std.proofs.lemmas.Bool.{and_parts, cond-false, cond-true, eqb-true, le-leb, le-ltb, leb-true, lt-ltb, ltb-false}
 use Rattle.std.proofs.lemmas.Option.{cond_some, none-some}

@@ -1,4 +1,4 @@
--- What the tool's call leaves, by the status with which it ends.
+-- What the tool's call has done, depending on the status with which it ends.
 use Rattle.std.proofs.Common.{◌≡◌, ◌∙◌, ap, inl, inr, refl, sym, subst, ℕ, ◌-◌, ◌^◌, ◌<◌, Bool, List, ◌++◌, Option, Some, length, arith}
 use Rattle.std.specs.Io.KnownBytes.{append_known}
 use Rattle.std.specs.Prelude.{◌⊎◌, take}

@@ -1,4 +1,4 @@
--- Ways as README has them, from those of the laws.
+-- Ways as README has them, from the ways of the laws.
 use Rattle.std.proofs.Common.{◌≡◌, ◌∙◌, ap, inl, inr, ℕ, ◌+◌, ◌≤◌, List, [], ◌∷◌, ◌++◌, Option, Some, None, length, length-append, arith}
 use Rattle.congestion_trait.specs.Control.{Control}
 use Rattle.dccp_endpoint.specs.End.{floor_of, new_end}

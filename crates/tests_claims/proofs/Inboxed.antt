@@ -1,4 +1,4 @@
--- What the laws say of a pair that a schedule with inboxes reached, and of outcomes without their place.
+-- What the laws say about a pair that a schedule with inboxes reached, and about outcomes without their place.
 use Rattle.std.proofs.Common.{◌≡◌, refl, sym, subst, ap, ◌∙◌, ℕ, Some, None}
 use Rattle.congestion_trait.specs.Control.{Control}
 use Rattle.dccp_states.specs.declared.outcome.Outcome.{Outcome}
@@ -36,7 +36,7 @@ module _ {C : Type 0} (control : Control C) where
       (r.there, r.back)
       side)
 
--- An outcome is dropped, took nothing or took data, where another is that differs by the place of its data alone.
+-- An outcome is dropped, took nothing or took data, if another is that differs only in the place of its data.
 pub dropped-so : (o : Outcome) (why : Why) → without_place o ≡ outcome.Dropped why → o ≡ outcome.Dropped why
 dropped-so (outcome.Dropped other) why same = same
 dropped-so (outcome.Took None) why same = cc same

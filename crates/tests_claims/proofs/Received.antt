@@ -1,4 +1,4 @@
--- What a step on bytes leaves and sends, by its outcome.
+-- What a step on bytes leaves and sends, depending on its outcome.
 use Rattle.std.proofs.Common.{◌≡◌, ◌∙◌, ◌⊎◌, inl, inr, refl, ap, sym, subst, ℕ, not, Bool, true, List, [], Option, Some}
 use Rattle.congestion_trait.specs.Calls.{Call}
 use Rattle.dccp_endpoint.specs.Causes.{AreTurns}
@@ -65,7 +65,7 @@ resetting e bytes (Dropped why) cause f turns form code detail is = cc is
 resetting e bytes (WasReset old) cause f turns form code detail is = cc is
 resetting e bytes (Took delivered) cause f turns form code detail is = cc is
 
--- an acknowledgement is owed where nothing goes out
+-- an acknowledgement is due if nothing goes out
 owed-or-said : (owed : Bool) (sending : Transmission) → owed ≡ not (is_acking_sent sending) → (owed ≡ true) ⊎ IsSaid sending
 owed-or-said owed Silent is = inl is
 owed-or-said owed (Next packet) is = inr tt

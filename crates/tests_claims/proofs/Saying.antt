@@ -1,4 +1,4 @@
--- A line is read as what it says, or refused for its first fault; and bytes are read as one packet.
+-- A line is read as what it says, or refused for its first fault. Bytes are read as one packet.
 use Rattle.std.proofs.Common.{◌≡◌, ◌∙◌, ◌⊎◌, inl, inr, refl, sym, ℕ, List, Some, Result, Ok, Err}
 use Rattle.std.specs.Prelude.{◌↔◌}
 use Rattle.dccp_packets.specs.Grammar.{Parts, decoded}

@@ -6,8 +6,7 @@ use Rattle.dccp_endpoint.specs.declared.config.Config.{Config}
 use Rattle.dccp_states.specs.declared.phase.Role.TheVariants.{Client, Server}
 use Rattle.two_inboxes.specs.Inboxes.{InboxEvent, InboxPair, begins_with_inboxes, inbox_plays}
 
--- some schedule leads here from a client and a server of which each takes the other's addresses for its connection's, with inboxes
--- for so many packets
+-- some schedule leads here from a client and a server with each other's addresses, with inboxes for this many packets
 pub record ReachedWithInboxes {C : Type 0} (control : Control C) (w : InboxPair C) : Type 0 where
   pub client : Config
   pub server : Config

@@ -7,7 +7,7 @@ use Rattle.world_events.specs.declared.event.Event.{Event}
 use Rattle.world_events.specs.declared.event.Event.TheVariants as event
 use Rattle.world_events.specs.declared.event.Side.{Side}
 
--- at most so many events, each of them a timer that fires or a frame that arrives
+-- at most this many events, each of them a timer that fires or a frame that arrives
 pub record IsPassiveWay (most : ℕ) (way : List Event) : Type 0 where
   pub few : length way ≤ most
   pub passive : (place : ℕ) (e : Event) → slice_get way place ≡ Some e
@@ -21,6 +21,6 @@ AreBothOpen w = (w.client.end.phase ≡ phases.Open) × (w.server.end.phase ≡ 
 abbrev pub IsEndOver : WorldState → Side → Type 0
 IsEndOver w side = ((half_of w side).end.phase ≡ phases.Closed) ⊎ ((half_of w side).end.phase ≡ phases.TimeWait)
 
--- so is that of one of the two
+-- the end of at least one side is CLOSED or in TIMEWAIT
 abbrev pub IsAnEndOver : WorldState → Type 0
 IsAnEndOver w = (side : Side) × IsEndOver w side

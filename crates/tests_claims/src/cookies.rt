@@ -1,4 +1,4 @@
-//! What a caller has of the cookies of a server.
+//! What a caller can rely on for the cookies of a server.
 ghost use Rattle.std.specs.Prelude.{◌≡◌, ◌+◌, ◌<◌, ◌≤◌, ◌^◌, ℕ, Some, drop, length};
 ghost use Rattle.byteorder.specs.Endian.{big_number};
 ghost use Rattle.init_cookies.specs.Cookies.{cookie_bytes, cookie_opening, cookie_tag, key_at};
@@ -6,7 +6,7 @@ ghost use Rattle.init_cookies.specs.Openings.{FitsCookie, OpeningState};
 
 use init_cookies::{CookieKeys, FirstRequest, Route, cookies_come_back};
 
-/// For two minutes a cookie that comes back by its route opens what it was written for (`returned`), also where the key
+/// For two minutes a cookie that comes back by its route opens what it was written for (`returned`), also if the key
 /// was changed once since (`changed`). So no cookie is written for two openings (`one`).
 pub fn a_cookie_opens_what_it_was_written_for()
     ensures returned { (keys : CookieKeys) (now : ℕ) (route : Route) (o : OpeningState) → o.time < 2 ^ 64 → o.iss < 2 ^ 48 → o.number < 2 ^ 48
@@ -21,8 +21,8 @@ pub fn a_cookie_opens_what_it_was_written_for()
     cookies_come_back();
 }
 
-/// What a cookie opens was answered two minutes ago at most, and not later than now (`early`, `late`). The cookie has a
-/// tag that only who has the key can make: that of its bytes and of its route (`tagged`). It has 32 to 252 bytes
+/// What a cookie opens was answered at most two minutes ago, and not later than now (`early`, `late`). The cookie has a
+/// tag of its bytes and of its route, which only the holder of the key can make (`tagged`). It has 32 to 252 bytes
 /// (`short`, `long`).
 pub fn opened(keys: &CookieKeys, route: &Route, bytes: &[u8], now: u64) -> Option<FirstRequest>
     ensures early { (o : OpeningState) → result ≡ Some o → o.time ≤ now }

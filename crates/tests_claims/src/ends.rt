@@ -1,4 +1,4 @@
-//! What a caller has of one end's calls.
+//! What a caller can rely on for the calls of one end.
 ghost use Rattle.std.specs.Prelude.{◌≡◌, ◌≢◌, ◌⊎◌, ◌↔◌, ◌<◌, ◌≤◌, ℕ, List, true, Option, Some, None, Ok, Err, length};
 ghost use Rattle.dccp_endpoint.specs.Controlled.{in_flight_of, window_of};
 ghost use Rattle.dccp_endpoint.specs.End.{value_in};
@@ -15,10 +15,11 @@ use dccp_endpoint::Endpoint;
 use dccp_packets::Outbox;
 use dccp_states::{Outcome, SendFault};
 
-/// Bytes that arrive have an outcome exactly if its cause holds (`exact`). What is dropped changes nothing and sends nothing (`dropped`). A Sync
-/// goes out, and moves neither the phase nor a row (`synced`); a valid Reset moves the phase to TIMEWAIT, sends nothing, and leaves the rows and
-/// the numbers received (`ended`); and where a Reset goes out, something goes out (`reset`). What is taken is answered, or an acknowledgement is
-/// owed for it (`taken`).
+/// Bytes that arrive have an outcome exactly if its cause holds (`exact`). What is dropped changes nothing and sends
+/// nothing (`dropped`). After an answer by a Sync, something goes out, and neither the phase nor a row changes
+/// (`synced`); a valid Reset changes the phase to TIMEWAIT, sends nothing, and keeps the rows and the numbers received
+/// (`ended`); and after an answer by a Reset, something goes out (`reset`). What is taken is answered, or an
+/// acknowledgement is due for it (`taken`).
 pub fn received<C: Congestion>(end: &mut Endpoint<C>, bytes: &[u8], out: &mut Outbox) -> Outcome
     requires { length bytes.now ≤ 2044 }
     ensures exact { (outcome : Outcome) → (result ≡ outcome) ↔ HasCause end.old.state bytes.now outcome }
@@ -33,9 +34,9 @@ pub fn received<C: Congestion>(end: &mut Endpoint<C>, bytes: &[u8], out: &mut Ou
     end.receive(bytes, out)
 }
 
-/// Data are taken exactly where the end is OPEN, they are 1,024 bytes at most, CCID 2 gets its Ack Vectors, and fewer
-/// packets are in flight than may be (`sends`, `open`, `short`, `reported`, `room`). A refused call changes nothing and
-/// sends nothing (`refused`).
+/// Data are taken exactly if the end is OPEN, the data have at most 1,024 bytes, CCID 2 gets its Ack Vectors, and fewer
+/// packets are in flight than allowed (`sends`, `open`, `short`, `reported`, `room`). A refused call changes nothing
+/// and sends nothing (`refused`).
 pub fn sent<C: Congestion>(
     end: &mut Endpoint<C>,
     payload: &[u8],

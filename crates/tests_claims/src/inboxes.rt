@@ -1,4 +1,4 @@
-//! What a caller has of an inbox, and of two ends with inboxes.
+//! What a caller can rely on for an inbox, and for two ends with inboxes.
 ghost use Rattle.std.specs.Prelude.{◌≡◌, ◌<◌, ◌≤◌, ◌^◌, ℕ, List, IsTrue, None, Ok, Some, Contains, drop, length, slice_get, take};
 ghost use Rattle.data_dropped.specs.Drops.{HaveCodes, code_at, drop_bytes, drop_code, tells_all};
 ghost use Rattle.data_dropped.specs.History.{InboxCall, history_after_all, no_history};
@@ -29,8 +29,8 @@ use two_inboxes::{
     ends_with_inboxes_run_as_alone, frames_tell_of_what_was_taken, longer_frames_are_taken_alike,
 };
 
-/// After any calls of an inbox, what was taken are the first data that were kept, and what it holds are the others (`taken`, `held`). It never
-/// holds more than it may (`within`).
+/// After any calls of an inbox, the first of the data that were kept were taken, and it holds the others (`taken`,
+/// `held`). It never holds more than it may (`within`).
 pub fn an_inbox_hands_over_what_it_kept()
     ensures taken { (capacity : ℕ) (calls : List InboxCall) → take (length (history_after_all (no_history capacity) calls).taken)
         (history_after_all (no_history capacity) calls).kept ≡ (history_after_all (no_history capacity) calls).taken }
@@ -41,8 +41,9 @@ pub fn an_inbox_hands_over_what_it_kept()
     what_is_kept_is_taken();
 }
 
-/// Of a report of drops a number has a code only where its data were dropped with it (`only`). Where the report is whole,
-/// each drop among the 2,048 numbers from its acknowledgement number down is in it (`all`). It fits one option (`fits`).
+/// In a report of drops a number has a code only if its data were dropped with that code (`only`). If the report is
+/// whole, each drop among the 2,048 numbers from its acknowledgement number down is in it (`all`). It fits in one
+/// option (`fits`).
 pub fn a_report_tells_the_drops()
     ensures only { (drops : List DropEntry) (ack n code : ℕ) → HaveCodes drops → ack < 2 ^ 48 → n < 2 ^ 48 → drop_code drops n ≡ None
         → code_at ack (drop_bytes drops ack) n ≡ Some code → ⊥ }
@@ -53,9 +54,9 @@ pub fn a_report_tells_the_drops()
     a_report_of_drops_reads_back();
 }
 
-/// An end that takes a frame that an inbox has lengthened is the end that takes the frame as it was, and answers with the
-/// same frame (`alike`, `answered`). It drops the one where it drops the other (`dropped`), and takes data of both or of
-/// none (`quiet`, `delivered`).
+/// An end that takes a frame that an inbox has lengthened changes as if it took the frame as it was, and answers with
+/// the same frame (`alike`, `answered`). It drops one exactly if it drops the other (`dropped`), and takes data of both
+/// or of none (`quiet`, `delivered`).
 pub fn longer_frames_are_taken_as_shorter_ones()
     ensures alike { (e : EndState) (held : InboxState) (own frame : Outgoing) → TellsItsDrops e.config.pseudo_in held own frame
         → (receives e frame.bytes).after ≡ (receives e own.bytes).after }
@@ -72,7 +73,7 @@ pub fn longer_frames_are_taken_as_shorter_ones()
     longer_frames_are_taken_alike();
 }
 
-/// After every schedule two ends with inboxes are safe, as two ends alone are.
+/// After every schedule two ends with inboxes are safe, as two ends without inboxes are.
 pub fn ends_with_inboxes_are_safe<C: Congestion>()
     ensures { (w : InboxPair C) → ReachedWithInboxes C.control w → Safe C.control w.ends }
 {
@@ -80,8 +81,8 @@ pub fn ends_with_inboxes_are_safe<C: Congestion>()
     ends_with_inboxes_run_as_alone::<C>();
 }
 
-/// What an application took was processed (`processed`). No frame calls it dropped, whenever that went out (`dropped`),
-/// and none that went out after it was processed says that it is missing (`missing`).
+/// What an application took was processed (`processed`). No frame reports it as dropped, whenever that frame went out
+/// (`dropped`), and no frame that went out after it was processed says that it is missing (`missing`).
 pub fn frames_are_true_of_what_was_taken<C: Congestion>()
     ensures processed { (w : InboxPair C) → ReachedWithInboxes C.control w → (side : Side) (n : ℕ)
         → Contains (data_numbers (inbox_at w side).past.taken) n → Contains (half_of w.ends.world side).processed n }

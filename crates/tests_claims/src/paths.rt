@@ -1,4 +1,4 @@
-//! What a caller has of the rules of a path: limits, timeouts, Ack Ratios and allowances.
+//! What a caller can rely on for the rules of a path: limits, timeouts, Ack Ratios and allowances.
 ghost use Rattle.std.specs.Prelude.{◌≡◌, ◌<◌, ◌≤◌, ◌+◌, ◌-◌, ◌*◌, ◌/◌, ℕ, List, Option, Some};
 ghost use Rattle.path_rules.specs.AckRatio.{ack_ratio_aim, half};
 ghost use Rattle.path_rules.specs.Allowance.{allowed_after_acks, allowed_after_congestion, allowed_after_drops, window_within};
@@ -13,7 +13,7 @@ use path_rules::{
     ack_ratios_fit_the_window, allowances_are_kept, limits_hold, timeouts_are_bounded,
 };
 
-/// Never are more tokens granted than a bucket held at first and what came in since.
+/// No more tokens are granted than a bucket held at first and got since.
 pub fn no_more_pass_than_came_in()
     ensures { (limit : Limit) (bucket : Bucket) (times : List ℕ)
         → bucket.thousandths + limit.per_second * (asked_last bucket.since times - bucket.since) < 1000 * granted limit bucket times → ⊥ }
@@ -21,8 +21,8 @@ pub fn no_more_pass_than_came_in()
     limits_hold();
 }
 
-/// No timeout is below 250 milliseconds, nor above 64 seconds, nor over before a report that comes 249 milliseconds after
-/// the round trip.
+/// No timeout is below 250 milliseconds or above 64 seconds, and none ends before a report that comes 249 milliseconds
+/// after the round trip.
 pub fn no_timeout_comes_too_early_or_late()
     ensures early { (path : Option RoundTrip) → timeout path < 250 → ⊥ }
     ensures late { (path : Option RoundTrip) → 64000 < timeout path → ⊥ }
@@ -31,7 +31,7 @@ pub fn no_timeout_comes_too_early_or_late()
     timeouts_are_bounded();
 }
 
-/// No Ack Ratio that is wanted is 0, and none above 2 is more than half the window.
+/// No Ack Ratio that is asked for is 0, and none above 2 is more than half the window.
 pub fn no_ack_ratio_stops_the_acks()
     ensures some { (window used width : ℕ) → ack_ratio_aim window used width ≡ 0 → ⊥ }
     ensures half { (window used width : ℕ) → 2 < ack_ratio_aim window used width → half window < ack_ratio_aim window used width → ⊥ }
@@ -39,7 +39,8 @@ pub fn no_ack_ratio_stops_the_acks()
     ack_ratios_fit_the_window();
 }
 
-/// No report closes an allowance or raises it, congestion halves it, and acknowledgements raise it by one at most.
+/// A report of drops neither closes nor raises an allowance, congestion halves it, and acknowledgements raise it by at
+/// most one.
 pub fn no_allowance_closes_or_leaps()
     ensures some { (it : Option Allowance) (window drops : ℕ) → (allowed_after_drops it window drops).most ≡ 0 → ⊥ }
     ensures falls { (it : Option Allowance) (window drops : ℕ) → 0 < window_within it window

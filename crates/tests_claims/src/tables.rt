@@ -1,4 +1,4 @@
-//! What a caller has of the tables of packets and of lines, and of the window of CCID 2.
+//! What a caller can rely on for the tables of packets and of lines, and for the window of CCID 2.
 ghost use Rattle.std.specs.Prelude.{◌≡◌, ◌⊎◌, ◌↔◌, ◌≤◌, ℕ, List, Ok};
 ghost use Rattle.ccid_two.specs.Window.{ccid_control, first_state};
 ghost use Rattle.congestion_trait.specs.Calls.{Call, run};
@@ -15,7 +15,7 @@ use ccid_two::window_stays_in_range;
 use dccp_packets::what_is_read_is_the_table;
 use schedule_text::{lines_are_their_forms, the_first_fault_is_answered};
 
-/// Bytes are a packet exactly by the table, and by one row of it: no bytes are two packets (`exact`, `one`).
+/// Bytes are a packet exactly if the table says so, by one row of it: no bytes are two packets (`exact`, `one`).
 pub fn bytes_are_a_packet_by_the_table()
     ensures exact { (header : Header) (options payload bytes : List ℕ)
         → (decoded bytes ≡ Ok (record { header = header; options = options; payload = payload })) ↔ IsPacket header options payload bytes }
@@ -25,8 +25,8 @@ pub fn bytes_are_a_packet_by_the_table()
     what_is_read_is_the_table();
 }
 
-/// A line is the words of what it says, or has a first fault, and never both (`either`, `apart`). No line says two things
-/// (`one`).
+/// A line is the words of what it says, or it has a first fault, and never both (`either`, `apart`). No line says two
+/// things (`one`).
 pub fn a_line_says_one_thing_or_has_a_fault()
     ensures either { (text : List ℕ) → ((said : Line) × IsLine text said) ⊎ ((fault : LineFault) × (line_fault text ≡ Some fault)) }
     ensures apart { (text : List ℕ) (said : Line) (fault : LineFault) → IsLine text said → line_fault text ≡ Some fault → ⊥ }

@@ -1,4 +1,4 @@
-//! What a caller has of the tool's call, and of a listener's input.
+//! What a caller can rely on for the tool's call, and for a listener's input.
 ghost use Rattle.std.specs.Prelude.{◌≡◌, ◌⊎◌, ◌↔◌, ◌++◌, ◌-◌, ◌^◌, ◌<◌, ℕ, List, [], Some, None, true, false, flat_map, map, take};
 ghost use Rattle.dccp_command.specs.CampaignText.{campaign_text};
 ghost use Rattle.dccp_command.specs.Forms.{form_text, is_form_refused, reads_input};
@@ -23,12 +23,13 @@ use std::alloc::Global;
 use std::thread::Threads;
 use tool_jobs::each_peer_is_answered_by_its_chain;
 
-/// What `dccp` leaves. With status 0 or 1, and with no other of its statuses, each accepted event of `run` took place in a
-/// safe world (`done`, `refused`), and the sink took exactly the text of the input: for `run` the transcript
-/// (`transcript`), for each other form that reads its own (`whole`), for a campaign its sums (`sums`). Status 1 comes for
-/// an input that is refused, and 0 for none, which was read to its end (`accepted`, `faulty`, `emptied`). With 3, 4 or 5
-/// the sink took a front of the text (`front`): with 3 the source failed, with 4 the sink (`read`, `written`). Status 2
-/// comes for words that no form has (`unnamed`), and for these nothing else does but 5 (`named`).
+/// What a call of `dccp` has done when it ends. With status 0 or 1, each accepted event of `run` took place in a safe
+/// world (`done`, `refused`), and the sink took exactly the text of the input: for `run` the transcript (`transcript`),
+/// for each other form that reads its own text (`whole`), for a campaign its sums (`sums`). Status 1 comes only for an
+/// input that is refused, and 0 only for one that is not, which was then read to its end (`accepted`, `faulty`,
+/// `emptied`). With 3, 4 or 5 the sink took a prefix of the text (`front`): with 3 the source failed, with 4 the sink
+/// (`read`, `written`). Status 2 comes for words that are no form (`unnamed`), and for these only 2 or 5 comes
+/// (`named`).
 pub fn played<R: Threads + Sync, G: Gate + Sync, S: Source, K: Sink>(
     rt: &R,
     alloc: Global,
@@ -66,10 +67,11 @@ pub fn played<R: Threads + Sync, G: Gate + Sync, S: Source, K: Sink>(
     dccp(rt, alloc, gate, words, input, output)
 }
 
-/// Of every input of `listen`: each peer is answered and sent what a server for it alone would have given it on its lines alone, those left out
-/// that a full table answered (`alone`). Where no line is refused, the text is that of all lines that say something, in their order and with
-/// their numbers, and then of the flows, in the order of their peers (`text`, `lines`, `ordered`). A peer finds the listener busy exactly where
-/// it has no flow and would get one, and as many stand as may (`busy`).
+/// For every input of `listen`: each peer gets the answers and frames that a server only for it would have given for
+/// only its lines, without those that a full table answered (`alone`). If no line is refused, the text is that of all
+/// lines that say something, in their order and with their numbers, and then of the flows, in the order of their peers
+/// (`text`, `lines`, `ordered`). A peer finds the listener busy exactly if it has no flow and would get one, and there
+/// are as many flows as allowed (`busy`).
 pub fn a_listener_answers_each_peer_by_its_own_lines()
     ensures alone { (most : ℕ) (input : List ℕ) (peer : Peer) → IsChain (first_listening most).config peer None
         (end_of_peer (listened most input).last.listener.flows peer) (peer_turns peer (turns_of_input most input)) }

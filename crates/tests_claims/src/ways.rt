@@ -1,4 +1,5 @@
-//! What a reader has of progress, as lists of timers and deliveries. The configurations are each other's throughout.
+//! What a reader can rely on about progress, as lists of timers and deliveries. The two ends always have each other's
+//! configurations.
 ghost use Rattle.std.specs.Prelude.{◌≡◌, ◌⊎◌, ◌≤◌, ◌<◌, ◌+◌, ◌^◌, ◌-◌, ℕ, List, [], ◌∷◌, Some, Ok, false, drop, length, slice_get};
 ghost use Rattle.dccp_endpoint.specs.Calling.{lacks_vectors};
 ghost use Rattle.dccp_endpoint.specs.Drafts.{Fits};
@@ -39,7 +40,7 @@ pub fn an_opening_takes_thirteen_events<C: Congestion>()
     openings_end_in_open::<C>();
 }
 
-/// Where both ends are OPEN, at most twenty-four timers and deliveries settle all features, and each has one value then;
+/// If both ends are OPEN, at most twenty-four timers and deliveries settle all features, and each then has one value;
 /// or an end is over.
 pub fn a_negotiation_takes_twenty_four_events<C: Congestion>()
     ensures { (w : ControlledWorld C) (reached : ReachedByEvents C.control w) → AreForEachOther reached.client reached.server → AreBothOpen w.world
@@ -64,8 +65,9 @@ pub fn a_closing_takes_seven_events<C: Congestion>()
     closing_ends_both::<C>();
 }
 
-/// Where both ends are OPEN and all rows of both are STABLE, and a sender gets the reports that its CCID needs, at most
-/// six timers and deliveries let its data through: `send` takes them, and the frame that goes out hands over just these.
+/// If both ends are OPEN and all rows of both are STABLE, and a sender gets the reports that its CCID needs, its data
+/// get through after at most six timers and deliveries: `send` takes them, and the frame that goes out delivers exactly
+/// these.
 pub fn data_take_six_events<C: Congestion>()
     ensures { (w : ControlledWorld C) (reached : ReachedByEvents C.control w) (side : Side) (payload : List ℕ)
         → AreForEachOther reached.client reached.server → AreBothOpen w.world

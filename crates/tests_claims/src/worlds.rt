@@ -1,4 +1,5 @@
-//! What a reader has of two ends after every list of events: the six parts of what is safe, and what is delivered.
+//! What a reader can rely on for two ends after every list of events: the six parts of what is safe, and what is
+//! delivered.
 ghost use Rattle.std.specs.Prelude.{◌≡◌, ◌≢◌, ◌⊎◌, ℕ, ◌+◌, ◌^◌, ◌<◌, ◌≤◌, List, ◌∷◌, ◌++◌, [], Some, None, Ok, IsTrue, IsSome, Contains, true, false, length, take, drop, slice_get};
 ghost use Rattle.ack_vectors.specs.Vector.{is_whole_under};
 ghost use Rattle.congestion_trait.specs.Flight.{Has};
@@ -39,9 +40,9 @@ use two_ends::{
     vectors_tell_what_was_processed, what_is_reported_arrived, what_none_told_is_far_below,
 };
 
-/// *agree*: where both ends call a feature settled they hold one value (`clients`, `servers`): the first of the server's
-/// last list that is in the client's, where one does, and each has sent a list then (`shared`, `listed`); or what the
-/// location sent last (`told`).
+/// *agree*: if a feature is settled at both ends, they hold one value (`clients`, `servers`): the first of the server's
+/// last list that is also in the client's, if there is one, and then each has sent a list (`shared`, `listed`); or what
+/// the location sent last (`told`).
 pub fn settled_ends_hold_one_value<C: Congestion>()
     ensures clients { (w : ControlledWorld C) → ReachedByEvents C.control w → (feature : Feature)
         → (held_of w.world.client.end feature Here).stand ≡ Stable → (held_of w.world.server.end feature There).stand ≡ Stable
@@ -62,9 +63,9 @@ pub fn settled_ends_hold_one_value<C: Congestion>()
     settled_features_are_alike::<C>();
 }
 
-/// *given*: a value that is not the initial one is in frames: lists of both share it first (`listed`), or the
-/// location told it (`said`). It is the initial one where a side sent no list (`silent`), where no two lists share an
-/// entry (`apart`), and where the location told none (`untold`).
+/// *given*: a value that is not the initial one is in frames: it is the first that lists of both share (`listed`), or
+/// the location sent it (`said`). It is the initial one if a side sent no list (`silent`), if no two lists share an
+/// entry (`apart`), and if the location sent none (`untold`).
 pub fn each_value_was_given<C: Congestion>()
     ensures listed { (w : ControlledWorld C) → ReachedByEvents C.control w → (pair : FeatureAt) (side : Side) → IsServerPriority pair
         → (held_at w.world pair side).value ≢ initial_of pair.feature → CameOfLists w.world pair (held_at w.world pair side).value }
@@ -84,8 +85,9 @@ pub fn each_value_was_given<C: Congestion>()
     values_come_from_both_sides::<C>();
 }
 
-/// *truthful*: of every Ack Vector ever sent, what it reports as received was processed when it was sent (`received`), what it reports otherwise
-/// was not (`missing`), a whole one leaves out nothing that was processed (`all`), and nothing after its acknowledgement was (`none_after`).
+/// *truthful*: for every Ack Vector ever sent: what it reports as received was processed when it was sent (`received`),
+/// what it reports otherwise was not (`missing`), a whole one leaves out nothing that was processed (`all`), and
+/// nothing after its acknowledgement number was processed (`none_after`).
 pub fn each_vector_is_true<C: Congestion>()
     ensures received { (w : ControlledWorld C) → ReachedByEvents C.control w → (side : Side) (frame : SentFrame) (ack n : ℕ) (bytes : List ℕ)
         → HasSentVector (half_of w.world side) frame ack bytes → ack < 2 ^ 48 → n < 2 ^ 48
@@ -104,7 +106,7 @@ pub fn each_vector_is_true<C: Congestion>()
     vectors_tell_what_was_processed::<C>();
 }
 
-/// *told*: what lies below a floor was told in a whole vector that arrived, or a number 2,048 or more after it was
+/// *told*: what lies below a floor was reported in a whole vector that arrived, or a number 2,048 or more after it was
 /// processed.
 pub fn what_lies_below_a_floor_was_told<C: Congestion>()
     ensures { (w : ControlledWorld C) → ReachedByEvents C.control w → (side : Side) (iss first count floor : ℕ) → iss < 2 ^ 48 → 1 ≤ first
@@ -116,8 +118,8 @@ pub fn what_lies_below_a_floor_was_told<C: Congestion>()
     what_none_told_is_far_below::<C>();
 }
 
-/// *once* and *heard*: no number is processed early and late (`once`), nor one that the other side did not send (`sent`);
-/// and what a congestion control has as Reported the other side processed (`heard`).
+/// *once* and *heard*: no number is processed both early and late (`once`), and none that the other side did not send
+/// (`sent`); and what a congestion control has as Reported was processed by the other side (`heard`).
 pub fn each_number_is_processed_once<C: Congestion>()
     ensures once { (w : ControlledWorld C) → ReachedByEvents C.control w → (side : Side) (early n : ℕ)
         → Contains (take early (half_of w.world side).processed) n → Contains (drop early (half_of w.world side).processed) n → ⊥ }
@@ -132,7 +134,7 @@ pub fn each_number_is_processed_once<C: Congestion>()
 }
 
 /// A step that delivers data delivers those of a frame that arrives, a Data or a DataAck: all bytes from a place up to
-/// the frame's end, which are its payload; and its receiver has processed its number by this.
+/// the frame's end, which are its payload; and after it the receiver has processed the frame's number.
 pub fn stepped<C: Congestion>(world: &mut World<C>, event: &Event) -> Result<Seen, WorldFault>
     ensures { (begins ends : ℕ) → result ≡ Ok (seens.Received (outcomes.Took (Some (begins, ends))))
         → (from : Side) × ((index : ℕ) × ((frame : SentFrame) × ((packet : Parts) × ((event.now ≡ events.Deliver from index)
