@@ -6,7 +6,7 @@ use Rattle.std.proofs.lemmas.List.{drop_at, length-drop, take-append-drop, take_
 use Rattle.std.specs.Prelude.{codes}
 use Rattle.bridge_command.specs.FrameLines.{comment_line, cut_comment}
 
--- what is after the text that stood there
+-- what comes after the text that was there
 pub comment_put : (old line text : List ℕ) (start : ℕ) → start ≡ length old → text ≡ (old ++ codes "# ") ++ line
     → take start text ++ cut_comment (drop start text) ≡ old ++ comment_line line
 comment_put old line text start is put =

@@ -61,7 +61,7 @@ line-goes play number given text rest said reads few =
     ∙ ap (λ (r : Result words.Line LineFault). gone_by play number given (by_line play number r)
     (λ (next : Play). gone_from run_job next (number + 1) (given + (length text + 1)) (lines_of rest))) reads
 
--- So many lines of a play were gone through as these events, from what was counted before to this run.
+-- This many lines of a play were played as these events, from what was counted before to this run.
 pub record Follows (before : Report) (last : RunState) (events : List Event) (play : Play) (whole : LinesResult Scene Play) : Type 0 where
   pub refusal : whole.refusal ≡ None
   pub told : scene_events whole.deeds ≡ events

@@ -22,7 +22,7 @@ begun-so ended.Read text refused left before after answers = answers.front (inl 
 begun-so ended.Write text refused left before after answers = answers.front (inr (inl refl))
 begun-so ended.Memory text refused left before after answers = answers.front (inr (inr refl))
 
--- a call that ends as its form did, or for lack of memory, owes what the form does
+-- a call that ends as its form did, or for lack of memory, has the contract of the form
 pub answers-as : (end result : JobEnd) (text : List ℕ) (refused : Bool) (left before after : Option (List ℕ)) → EndsAs end result
     → Answers text refused end left before after → Answers text refused result left before after
 answers-as end result text refused left before after (inl is) answers = subst (λ (r : JobEnd). Answers text refused r left before after) (sym is) answers

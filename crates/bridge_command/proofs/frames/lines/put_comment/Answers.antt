@@ -1,4 +1,4 @@
--- A comment follows the text that stood there.
+-- A comment follows the text that was there.
 use Rattle.std.proofs.Common.{◌≡◌, ◌∙◌, ap, subst, arith, ℕ, List, ◌++◌, length, vec_len, OnOk}
 use Rattle.capture_reader.specs.Records.{entry_of}
 use Rattle.packet_show.specs.Network.{carried_by}
