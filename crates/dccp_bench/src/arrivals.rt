@@ -149,7 +149,7 @@ fn fill(listener: &mut Listener, first: Seq48, out: &mut Outbox) {
     }
 }
 
-// So many packets of all peers in turn. Gives how many were answered.
+// Hands over this many packets, of all peers in turn. Returns how many were answered.
 fn hear_all(
     listener: &mut Listener,
     packet: &[u8],
@@ -170,7 +170,7 @@ fn hear_all(
     answered
 }
 
-// So many at a listener whose flows all stand.
+// The same with this many packets, at a listener that has all its flows.
 fn at_listener(alloc: Global, packet: &[u8], count: u32, first: Seq48) -> u32 {
     let mut listener = listening(alloc);
     let mut out = Outbox::new();
@@ -200,7 +200,7 @@ fn hear_alone(end: &mut Endpoint<Kinds>, frame: &mut Frame, number: u32, out: &m
     out.frame().is_some()
 }
 
-// So many packets at an end, numbered from 1. Gives how many were answered.
+// Hands this many packets to an end, numbered from 1. Returns how many were answered.
 fn hear_all_alone(end: &mut Endpoint<Kinds>, packet: &[u8], count: u32, out: &mut Outbox) -> u32 {
     let mut frame = frame_of(packet);
     let mut answered = 0u32;
@@ -212,7 +212,7 @@ fn hear_all_alone(end: &mut Endpoint<Kinds>, packet: &[u8], count: u32, out: &mu
     answered
 }
 
-// So many at one end, which has heard another packet before.
+// The same with this many packets, at an end that has taken another packet before.
 fn at_end(alloc: Global, before: &[u8], packet: &[u8], count: u32, first: Seq48) -> u32 {
     let Some(mut end) = end(alloc, first) else {
         return 0;
@@ -223,7 +223,7 @@ fn at_end(alloc: Global, before: &[u8], packet: &[u8], count: u32, first: Seq48)
     hear_all_alone(&mut end, packet, count, &mut out)
 }
 
-// So many datagrams that nobody hears. Gives how many have a number of their own.
+// This many datagrams that no end takes. Returns how many have separate numbers.
 fn nowhere(count: u32) -> u32 {
     let mut frame = frame_of(&REQUEST);
     let mut made = 0u32;
@@ -253,7 +253,7 @@ fn answered(alloc: Global, load: Load, count: u32, first: Seq48) -> u32 {
     }
 }
 
-/// So many datagrams come; prints how many were answered, so that none is left out.
+/// This many datagrams come. Prints how many were answered, so that none is left out.
 pub(crate) fn all(rt: &HostRuntime, load: Load, count: u32) -> io::Result<()> {
     let first = zero().add(2_000);
     let answered = answered(rt.alloc(), load, count, first);

@@ -30,7 +30,7 @@ fn filled(alloc: Global, capacity: u16) -> io::Result<Inbox>
     Ok(inbox)
 }
 
-// So many data are dropped, evenly over the numbers up to 2,048.
+// This many data are dropped, evenly over the numbers up to 2,048.
 fn drop_evenly(inbox: &mut Inbox, drops: u32) {
     let mut number = zero();
     for _ in 0..drops {
@@ -39,7 +39,7 @@ fn drop_evenly(inbox: &mut Inbox, drops: u32) {
     }
 }
 
-// So many reports are written, of all numbers.
+// This many reports are written, of all numbers.
 fn writes(inbox: &Inbox, rounds: u32) -> u64 {
     let mut out = DropBytes::new();
     let ack = zero().add(u64::from(REACH));

@@ -10,7 +10,7 @@ use seq_circle::{NoMemory, Seq48};
 use std::alloc::Global;
 use std::io;
 
-// So many rounds, and the set is started afresh. In the second half of them the peer acknowledges nothing, so that
+// This many rounds, and the set is started again. In the second half of them the peer acknowledges nothing, so that
 // vectors are cut and the floor is pushed.
 const PHASE: u32 = 4096;
 
@@ -94,7 +94,7 @@ fn sent_by_fixed(alloc: Global, rounds: u32) -> Result<u64, NoMemory> {
     Ok(sends(&mut control, 248, rounds))
 }
 
-// So many rounds of each call.
+// This many rounds of each call.
 fn rounds_of_each(alloc: Global, rounds: u32) -> Result<u64, NoMemory> {
     let marked = marked(alloc, rounds)?;
     let two = sent_by_two(alloc, rounds)?;

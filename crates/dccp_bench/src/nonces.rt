@@ -55,7 +55,7 @@ fn sent_all(runs: u32) -> NonceLedger {
     ledger
 }
 
-// So many vectors are written.
+// This many vectors are written.
 fn writes(received: &EcnReceived, out: &mut VectorBytes, ack: Seq48, rounds: u32) -> u64 {
     let mut sum = 0u64;
     for _ in 0..rounds {

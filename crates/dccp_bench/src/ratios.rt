@@ -69,7 +69,7 @@ fn send_all(flight: &mut Flight, runs: u32) {
     }
 }
 
-// So many lists.
+// This many lists.
 fn lists(alloc: Global, count: u32) -> Result<Vec<Flight>, NoMemory> {
     let mut flights = Vec::new(alloc);
     for _ in 0..count {
@@ -83,7 +83,7 @@ fn add_list(alloc: Global, flights: &mut Vec<Flight>) -> Result<(), NoMemory> {
     Ok(flights.push(flight)?)
 }
 
-// So many vectors are written.
+// This many vectors are written.
 fn writes(received: &Received, out: &mut VectorBytes, ack: Seq48, rounds: u32) -> u64 {
     let mut sum = 0u64;
     for _ in 0..rounds {

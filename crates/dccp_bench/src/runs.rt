@@ -9,7 +9,7 @@ use std::time::Instant;
 // How many successive numbers a full window has.
 const WINDOW: u32 = 2048;
 
-// So many marks: the next place follows from the one before by a factor and a step. With a factor that leaves 1 when
+// This many marks: the next place follows from the one before by a factor and a step. With a factor that leaves 1 when
 // divided by 4 and a step of 1, each place of the window comes once.
 #[derive(Clone, Copy)]
 struct Order {
@@ -80,7 +80,7 @@ fn marks<R: Runs>(runs: &mut R, order: Order) -> u64 {
     sum
 }
 
-// Makes the marks of an order in a set that begins anew; gives the nanoseconds and how many are New.
+// Makes the marks of an order in a new set. Returns the nanoseconds and how many are New.
 fn time_marks<R: Runs>(rt: &HostRuntime, runs: &mut R, order: Order) -> io::Result<(u64, u64)> {
     runs.start(zero());
     let before = if order.gaps {
