@@ -44,7 +44,7 @@ module _ (now : ℕ) where
   abbrev once : TimedState Both → Due → TimedState Both
   once s it = (rings_due kinds_control now s it).timed
 
-  -- what a tick does to an end by itself, and so many of them
+  -- what a tick does to the end itself, and what this many ticks do
   abbrev tells-end : TimedState Both → Option Due → TimedState Both
   tells-end s None = s
   tells-end s (Some it) = (due_told kinds_control now s it).timed
@@ -67,7 +67,7 @@ module _ (now : ℕ) where
       ap (ticked now n) (told-beside s (first_due_of s.timed now every_due))
       ∙ ticked-beside n (record s { timed = ticks-once s.timed })
 
-  -- one that is not due is passed over, and one that is is the first
+  -- what is not due is skipped, and what is due is the first
   passes : (s : TimedState Both) (it : Due) (rest : List Due) → Quiet it s → first_due_of s now (it ∷ rest) ≡ first_due_of s now rest
   passes s it rest is = ap (λ (x : Bool). if x then Some it else first_due_of s now rest) is
 
@@ -134,7 +134,7 @@ module _ (now : ℕ) where
       ∙ later (suc more) s (is, quiet)
       ∙ ap (λ (x : TimedState Both). rung_in_order kinds_control now x (dues rest)) (sym (left-alone s (due.Timer timer) is))
 
-  -- So many ticks as there are left to be looked at, or more, do all that is due.
+  -- As many ticks as there are things left to look at, or more, do all that is due.
   all-told : (more : ℕ) (passed rest : List Timer) (s : TimedState Both) → onto passed (dues rest) ≡ every_due → AreQuiet passed s
       → end-ticked (ticks-for rest more) s ≡ rung_in_order kinds_control now s (dues rest)
   all-told more passed [] s all quiet = last-by more passed s all quiet (has_run_out (due_alarm s due.Rules) now) refl

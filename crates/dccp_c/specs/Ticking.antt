@@ -15,7 +15,7 @@ ticked now (suc n) s = ticked now n (c_ticks now s).after
 abbrev pub seven_ticks : ℕ → CEnd → CEnd
 seven_ticks now s = ticked now (suc (suc (suc (suc (suc (suc (suc zero))))))) s
 
--- They leave what a session's own tick leaves, which tells what is due once; and an eighth tells nothing.
+-- They leave what one tick of a session leaves. An eighth tick reports nothing.
 abbrev pub TicksAreATick : Type 0
 TicksAreATick =
     (now : ℕ) (s : CEnd) → (seven_ticks now s ≡ (rings_each_due kinds_control now s every_due).holding)
