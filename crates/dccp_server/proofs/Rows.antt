@@ -163,7 +163,7 @@ what_happens :
     × (arrived_so None HadNoMemory true ≡ happening.Opened)
 what_happens = (refl, refl, refl)
 
--- packet 15 was dropped of peer 1 for want of room, and then of peer 2 for another reason; packet 16 of neither
+-- packet 15 was dropped of peer 1 for lack of room, and then of peer 2 for another reason; packet 16 of neither
 abbrev both_dropped : List FlowDrop
 both_dropped = flow_recorded (peer 2) 15 3 (flow_recorded (peer 1) 15 2 [])
 

@@ -157,7 +157,8 @@ fn of_class(ticket: &Ticket, class: u8) -> Option<Ticket>
     None
 }
 
-// How many tickets come before those of a class. Most often all are of one, which both ends of the queue tell.
+// How many tickets come before those of a class. Most often all tickets are of one class, which the first and the last
+// of the queue show.
 fn front(tickets: &[Ticket], class: u16) -> usize
     requires { AreTicketsInOrder tickets.now }
     ensures begins { BeginsAt class tickets.now result }
