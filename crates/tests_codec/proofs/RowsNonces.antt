@@ -116,7 +116,7 @@ places_are_emptied : Receives (
     Take 1000000 came.Marked New ∷ Floor 997953 ∷ Write 1000000 38 (lone 64) true ∷ Take 2060 one BelowFloor ∷ [])
 places_are_emptied = refl
 
--- Each byte stands for one number, and 127 of the 254 numbers that came are reported: only their nonces count.
+-- Each byte is for one number, and 127 of the 254 numbers that came are reported: only their nonces count.
 cut_nonces : played (each_second 254) (Write 506 39 in_turn false ∷ []) ≡ Write 506 39 in_turn false ∷ []
 cut_nonces = refl
 

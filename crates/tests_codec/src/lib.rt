@@ -3,7 +3,7 @@
 //! ccid_two; `streams` tests dccp_io, capture_reader, packet_show and schedule_text. Tables of values are worked rows
 //! in `proofs/`, computed from the definitions; cases that `docs/CASES.md` names are tests, too. The tests are in a
 //! separate crate because a crate with tests is proved twice, with them and without; and they are in one crate because
-//! each crate loads its statements anew.
+//! each crate loads its statements again.
 #![tactic(auto)]
 
 #[cfg(test)]

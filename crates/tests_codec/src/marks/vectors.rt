@@ -175,8 +175,8 @@ const LISTS: [(&str, &[Call]); 6] = [
             Call::Take(2_047, Marked::New),
         ],
     ),
-    // Every second number received, so that each byte stands for one number. One option has room for 253 of them, and
-    // two for 506.
+    // Every second number received, so that each byte is for one number. One option has room for 253 of them, and two
+    // for 506.
     (
         "vectors_at_the_edges",
         &[
