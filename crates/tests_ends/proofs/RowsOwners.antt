@@ -71,7 +71,7 @@ when_a_word_counts : (word : Notice) →
     × ((noticed_if false word (record { heard = true; path = usual })).path ≡ usual)
 when_a_word_counts word = (refl, refl, refl)
 
--- an open end with so many packets in flight of such a window
+-- an open end with this many packets in flight and such a window
 abbrev flying : ℕ → ℕ → Sight
 flying in_flight window =
     record {

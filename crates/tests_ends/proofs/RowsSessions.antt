@@ -54,9 +54,9 @@ unfolding receives opens closes prefers fires sends_payload sends_early framed u
 the_request_goes_out_again = refl
 
 -- A timeout leaves nothing in flight, so the timer rto stops; the next data begin it with twice its wait (RFC 2988, section 5.5), until an
--- acknowledgement brings the first wait back (section 5.3). The waits of the other timers have grown to 64 seconds, so that the first to run
--- out is rto. Of seven data the first two and the fifth are lost. At last two go out, of which the first are acknowledged before the
--- second have come: from then on the second are waited for anew.
+-- acknowledgement brings the first wait back (section 5.3). The waits of the other timers have grown to 64 seconds, so that the first to run out
+-- is rto. Of seven data the first two and the fifth are lost. Then two go out, of which the first are acknowledged before the second have come:
+-- from then on the second are waited for anew.
 a_timeout_doubles_the_next_wait :
     told kinds_control asked
     (Turns 2 ∷ AtPhases ∷ Pass 64000 ∷ Pass 64000 ∷ Pass 64000 ∷ Pass 64000 ∷ Pass 64000 ∷ Pass 64000 ∷ Pass 64000 ∷ Pass 64000 ∷

@@ -3,7 +3,7 @@
 //! end, data_dropped and dccp_uses. What a definition gives is a worked row of proofs/, computed from the definitions.
 //! The tests that run are each public call that no program makes, once, and what only many calls show. They are in a
 //! separate crate because a crate with tests is proved twice, with them and without; and all except those of a server
-//! (tests_server) are in one crate, because each crate over an end loads its statements anew. Their values come from
+//! (tests_server) are in one crate, because each crate over an end loads its statements again. Their values come from
 //! the standard, or were worked out by hand or by a second implementation, and never by this program.
 #![tactic(auto)]
 

@@ -133,7 +133,7 @@ impl Pair {
         self.client.end().phase() == phase && self.serving() == phase
     }
 
-    /// So many turns go by.
+    /// This many turns go by.
     pub(crate) fn go_on(&mut self, turns: usize) -> bool {
         for _ in 0..turns {
             if !self.pass(TURN) {
@@ -143,7 +143,7 @@ impl Pair {
         true
     }
 
-    /// So many milliseconds go by in one turn: a frame arrives at each side, if there is one, and the timers get the
+    /// This many milliseconds go by in one turn: a frame arrives at each side, if there is one, and the timers get the
     /// time.
     pub(crate) fn pass(&mut self, time: u64) -> bool {
         self.now = self.now.saturating_add(time);
