@@ -106,7 +106,7 @@ fn sink(alloc: Global, streams: &Streams) -> Result<MemorySink, Fail> {
     Ok(sink.ok().ok_or("no memory")?)
 }
 
-// Whether this is all that was told of an input that is refused: the line, or nothing if there is none.
+// Whether this is all that was reported about an input that is refused: the line, or nothing if there is none.
 fn is_told_line(told: &[u8], line: &str) -> bool {
     match told.split_last() {
         Some((last, rest)) => *last == b'\n' && rest == line.as_bytes(),
@@ -114,7 +114,7 @@ fn is_told_line(told: &[u8], line: &str) -> bool {
     }
 }
 
-// How what was written compares to a text, and what was reported besides to a line.
+// How the output compares to a text, and what was also reported to a line.
 fn compared(
     status: Status,
     input: &MemorySource,
