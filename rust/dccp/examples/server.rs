@@ -2,22 +2,18 @@
 //!
 //!     cargo run --example server -- 127.0.0.1:5001
 
-use dccp::net::{Error, Listener, Socket};
+use dccp::net::{Error, Listener};
 use std::thread;
-
-/// Sends back what comes, until the connection ends.
-fn serve(socket: &Socket) -> Result<(), Error> {
-    loop {
-        socket.send(&socket.recv()?)?;
-    }
-}
 
 fn main() -> Result<(), Error> {
     let address = std::env::args().nth(1).expect("server ADDRESS:PORT");
-    let listener = Listener::bind(&address, &[42])?;
-    for socket in listener.incoming() {
+    for socket in Listener::bind(&address, &[42])?.incoming() {
         let socket = socket?;
-        thread::spawn(move || serve(&socket));
+        thread::spawn(move || {
+            while let Ok(data) = socket.recv() {
+                let _ = socket.send(&data); // if the connection has ended, the next `recv` fails
+            }
+        });
     }
     Ok(())
 }
