@@ -3,7 +3,7 @@
 use crate::anew::LastSync;
 use crate::end::End;
 use crate::fates::InFlight;
-use crate::frames::Frames;
+use crate::frames::{Frames, Run};
 use crate::{
     AbortError, CloseError, Config, CookieKeys, Fate, Feature, Held, MakeError, Numbers, OpenError,
     Phase, Place, PreferError, SendError, Statistics, Timer, sys,
@@ -33,6 +33,16 @@ pub struct Segments {
     pub segment: usize,
     /// Whether it is one frame, which answers a packet, as [`Transmit::is_answer`] has it.
     pub is_answer: bool,
+}
+
+impl Segments {
+    fn of(run: &Run<'_>) -> Segments {
+        Segments {
+            length: run.bytes.len(),
+            segment: run.length,
+            is_answer: run.is_answer,
+        }
+    }
 }
 
 /// What an end has measured of its path (RFC 6298).
@@ -647,29 +657,14 @@ impl Connection {
     /// # Ok::<(), Box<dyn std::error::Error>>(())
     /// ```
     pub fn poll_transmit_into(&mut self, buffer: &mut [u8], most: usize) -> Option<Segments> {
-        let frames = &mut self.outgoing.frames;
-        let (next, is_answer) = frames.first()?;
-        let segment = next.len();
-        if most == 0 || buffer.len() < segment {
+        let run = self.outgoing.frames.runs(most, buffer.len()).next()?;
+        if most == 0 || buffer.len() < run.bytes.len() {
             return None;
         }
-        let mut length = frames.write_first(buffer)?;
-        let mut count = 1;
-        while !is_answer && count < most && length == count * segment {
-            let fits = |(frame, is_answer): (&[u8], bool)| {
-                !is_answer && frame.len() <= segment.min(buffer.len() - length)
-            };
-            if !frames.first().is_some_and(fits) {
-                break;
-            }
-            length += frames.write_first(&mut buffer[length..])?;
-            count += 1;
-        }
-        Some(Segments {
-            length,
-            segment,
-            is_answer,
-        })
+        buffer[..run.bytes.len()].copy_from_slice(run.bytes);
+        let (count, segments) = (run.count, Segments::of(&run));
+        self.outgoing.frames.remove(count);
+        Some(segments)
     }
 
     /// The next event for the owner.

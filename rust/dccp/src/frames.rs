@@ -55,11 +55,11 @@ impl Frames {
         Some((bytes, place.is_answer))
     }
 
-    /// The next frame has gone out.
-    fn remove_first(&mut self) {
-        if let Some(place) = self.places.get(self.gone) {
-            (self.gone, self.begin) = (self.gone + 1, self.begin + place.length);
-        }
+    /// The first so many frames have gone out.
+    pub(crate) fn remove(&mut self, count: usize) {
+        let gone = &self.places[self.gone..][..count.min(self.len())];
+        self.begin += gone.iter().map(|it| it.length).sum::<usize>();
+        self.gone += gone.len();
         if self.is_empty() {
             self.clear();
         }
@@ -69,17 +69,8 @@ impl Frames {
     pub(crate) fn take_first(&mut self) -> Option<Transmit> {
         let (bytes, is_answer) = self.first()?;
         let bytes = bytes.to_vec();
-        self.remove_first();
+        self.remove(1);
         Some(Transmit { bytes, is_answer })
-    }
-
-    /// Takes the next frame into this buffer, which has room for it, and returns its length.
-    pub(crate) fn write_first(&mut self, buffer: &mut [u8]) -> Option<usize> {
-        let (bytes, _) = self.first()?;
-        let length = bytes.len();
-        buffer[..length].copy_from_slice(bytes);
-        self.remove_first();
-        Some(length)
     }
 
     pub(crate) fn clear(&mut self) {
@@ -95,9 +86,9 @@ impl Frames {
             return;
         }
         let all = mem::take(self);
-        for (frame, place) in all.row().frames().zip(&all.places[all.gone..]) {
-            if !place.is_answer || goes() {
-                self.push(frame, place.is_answer);
+        for run in all.runs(1, usize::MAX) {
+            if !run.is_answer || goes() {
+                self.push(run.bytes, run.is_answer);
             }
         }
     }
@@ -110,62 +101,60 @@ impl Frames {
         }
     }
 
-    /// All frames.
-    pub(crate) fn row(&self) -> Row<'_> {
-        Row {
+    /// All frames as runs, of at most so many frames and so many bytes each, but of one frame at least.
+    pub(crate) fn runs(&self, most: usize, most_bytes: usize) -> Runs<'_> {
+        Runs {
             bytes: &self.bytes[self.begin..],
             places: &self.places[self.gone..],
+            most,
+            most_bytes,
         }
     }
 }
 
-/// Successive frames.
-#[derive(Clone, Copy)]
-pub(crate) struct Row<'a> {
-    bytes: &'a [u8],
-    places: &'a [Place],
-}
-
-/// Successive frames of one length, except that the last may be shorter.
+/// Successive frames of one length, except that the last may be shorter. An answer is a run by itself.
 #[derive(Clone, Copy)]
 pub(crate) struct Run<'a> {
     pub(crate) bytes: &'a [u8],
     /// The length of each except the last.
     pub(crate) length: usize,
     pub(crate) count: usize,
+    pub(crate) is_answer: bool,
 }
 
-impl<'a> Row<'a> {
-    /// The bytes of each.
-    pub(crate) fn frames(self) -> impl Iterator<Item = &'a [u8]> {
-        let mut left = self.bytes;
-        self.places.iter().map(move |place| {
-            let (frame, rest) = left.split_at(place.length);
-            left = rest;
-            frame
-        })
-    }
+/// The runs of successive frames.
+#[derive(Clone)]
+pub(crate) struct Runs<'a> {
+    bytes: &'a [u8],
+    places: &'a [Place],
+    /// The most frames of the next ones.
+    pub(crate) most: usize,
+    most_bytes: usize,
+}
 
-    /// Those after the first so many.
-    pub(crate) fn after(self, count: usize) -> Row<'a> {
-        let (gone, places) = self.places.split_at(count.min(self.places.len()));
-        let begin = gone.iter().map(|it| it.length).sum();
-        let bytes = &self.bytes[begin..];
-        Row { bytes, places }
-    }
+impl<'a> Iterator for Runs<'a> {
+    type Item = Run<'a>;
 
-    /// The first run, of at most so many frames and so many bytes, but of one at least; None if there are no frames.
-    pub(crate) fn run(self, most: usize, most_bytes: usize) -> Option<Run<'a>> {
-        let length = self.places.first()?.length;
-        let most = most.min(most_bytes / length.max(1)).max(1);
-        let first = &self.places[..most.min(self.places.len())];
-        let same = first.iter().take_while(|it| it.length == length).count();
-        let shorter = first.get(same).filter(|it| it.length < length);
-        let past = same * length + shorter.map_or(0, |it| it.length);
+    fn next(&mut self) -> Option<Run<'a>> {
+        let (first, others) = self.places.split_first()?;
+        let (mut past, mut count) = (first.length, 1);
+        for place in others.iter().take(self.most.saturating_sub(1)) {
+            let is_other = first.is_answer || place.is_answer || first.length < place.length;
+            if is_other || self.most_bytes < past + place.length {
+                break;
+            }
+            (past, count) = (past + place.length, count + 1);
+            if place.length < first.length {
+                break;
+            }
+        }
+        let (bytes, rest) = self.bytes.split_at(past);
+        (self.bytes, self.places) = (rest, &self.places[count..]);
         Some(Run {
-            bytes: &self.bytes[..past],
-            length,
-            count: same + usize::from(shorter.is_some()),
+            bytes,
+            length: first.length,
+            count,
+            is_answer: first.is_answer,
         })
     }
 }
@@ -173,14 +162,6 @@ impl<'a> Row<'a> {
 #[cfg(test)]
 mod tests {
     use super::Frames;
-
-    fn frames_of(lengths: &[usize]) -> Frames {
-        let mut frames = Frames::default();
-        for length in lengths {
-            frames.push(&vec![*length as u8; *length], false);
-        }
-        frames
-    }
 
     /// Those that have gone out leave room, and none is lost or changes its place.
     #[test]
@@ -200,10 +181,13 @@ mod tests {
         assert_eq!((next, frames.len()), (66, 34));
         assert_eq!(frames.bytes.len(), 3 * frames.places.len());
         assert!(frames.places.len() < 2 * 34 + 2);
-        let mut room = [0; 8];
-        assert_eq!(frames.write_first(&mut room), Some(3));
-        assert_eq!(room, [66, 66, 66, 0, 0, 0, 0, 0]);
-        assert_eq!(frames.row().frames().next(), Some(&[67; 3][..]));
+        let next = frames.runs(62, 100).next().unwrap();
+        assert_eq!(
+            (next.bytes, next.count, next.is_answer),
+            (&[66; 3][..], 1, true)
+        );
+        frames.remove(1);
+        assert_eq!(frames.first(), Some((&[67; 3][..], false)));
         frames.clear();
         assert_eq!((frames.len(), frames.take_first()), (0, None));
     }
@@ -217,24 +201,21 @@ mod tests {
             left -= 1;
             0 <= left
         });
-        assert_eq!(
-            frames.row().frames().flatten().copied().collect::<Vec<_>>(),
-            [0, 1, 2, 3, 4]
-        );
+        let left: Vec<u8> = frames.runs(1, 1).flat_map(|it| it.bytes).copied().collect();
+        assert_eq!(left, [0, 1, 2, 3, 4]);
     }
 
     fn runs(lengths: &[usize], most: usize) -> Vec<usize> {
-        let frames = frames_of(lengths);
-        let (mut left, mut counts) = (frames.row(), Vec::new());
-        while let Some(run) = left.run(most, 65_000) {
-            assert_eq!(
-                run.bytes.len(),
-                lengths[counts.iter().sum()..].iter().take(run.count).sum()
-            );
-            counts.push(run.count);
-            left = left.after(run.count);
-        }
-        counts
+        let mut frames = Frames::default();
+        lengths
+            .iter()
+            .for_each(|it| frames.push(&vec![7; *it], false));
+        let runs = frames.runs(most, 65_000);
+        assert_eq!(
+            runs.clone().map(|it| it.bytes.len()).sum::<usize>(),
+            lengths.iter().sum()
+        );
+        runs.map(|it| it.count).collect()
     }
 
     /// UDP_SEGMENT cuts a message into pieces of one length; the last may be shorter.

@@ -4,7 +4,7 @@
 //! sockets is in this file.
 
 use super::wire::{Batch, is_passing};
-use crate::frames::{Row, Run};
+use crate::frames::{Frames, Run};
 use std::array;
 use std::ffi::{c_int, c_short, c_uint, c_ulong, c_void};
 use std::io::{self, ErrorKind};
@@ -165,7 +165,7 @@ impl System {
     }
 
     /// Sends frames, to this peer if the socket is not connected. A frame that the system does not take is lost.
-    pub(super) fn send(&self, socket: &UdpSocket, to: Option<SocketAddr>, frames: Row<'_>) {
+    pub(super) fn send(&self, socket: &UdpSocket, to: Option<SocketAddr>, frames: &Frames) {
         send_many(socket, &self.has_segments, to, frames);
     }
 
@@ -320,37 +320,37 @@ fn send_many(
     socket: &UdpSocket,
     has_segments: &AtomicBool,
     to: Option<SocketAddr>,
-    frames: Row<'_>,
+    frames: &Frames,
 ) {
-    let mut left = frames;
+    let mut left = frames.runs(MOST_SEGMENTS, MOST_BYTES);
     loop {
-        let is_many = has_segments.load(Ordering::Relaxed);
-        let most = if is_many { MOST_SEGMENTS } else { 1 };
-        let mut next = left;
-        let runs: [Option<Run<'_>>; MOST] = array::from_fn(|_| {
-            let run = next.run(most, MOST_BYTES)?;
-            next = next.after(run.count);
-            Some(run)
-        });
+        if !has_segments.load(Ordering::Relaxed) {
+            left.most = 1;
+        }
+        let mut next = left.clone();
+        let runs: [Option<Run<'_>>; MOST] = array::from_fn(|_| next.next());
         let count = runs.iter().flatten().count();
         if count == 0 {
             return;
         }
         let sent = hand_over(socket, to, &runs[..count]);
-        left = left.after(runs[..sent].iter().flatten().map(|it| it.count).sum());
-        let Some(Some(run)) = runs.get(sent) else {
+        if sent == count {
+            left = next;
             continue;
-        };
+        }
         let fault = io::Error::last_os_error();
+        left.by_ref().take(sent).for_each(drop);
+        let mut after = left.clone();
+        let Some(run) = after.next() else { return };
         if fault.kind() == ErrorKind::ConnectionRefused {
             // That of an earlier datagram, which it reported in place of sending.
-            hand_over(socket, to, &[Some(*run)]);
+            hand_over(socket, to, &[Some(run)]);
         } else if 1 < run.count && !is_passing(&fault) {
             // The system, or the way to the peer, does not take such messages: from now on each frame is one.
             has_segments.store(false, Ordering::Relaxed);
             continue;
         }
-        left = left.after(run.count);
+        left = after;
     }
 }
 

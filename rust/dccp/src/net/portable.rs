@@ -2,7 +2,7 @@
 
 use super::wire::{Batch, is_passing, send_one};
 use crate::MOST_FRAME_BYTES;
-use crate::frames::Row;
+use crate::frames::Frames;
 use std::io;
 use std::net::{SocketAddr, UdpSocket};
 use std::time::Duration;
@@ -45,8 +45,10 @@ impl System {
     }
 
     /// Sends frames, to this peer if the socket is not connected. A frame that the system does not take is lost.
-    pub(super) fn send(&self, socket: &UdpSocket, to: Option<SocketAddr>, frames: Row<'_>) {
-        frames.frames().for_each(|it| send_one(socket, to, it));
+    pub(super) fn send(&self, socket: &UdpSocket, to: Option<SocketAddr>, frames: &Frames) {
+        frames
+            .runs(1, usize::MAX)
+            .for_each(|it| send_one(socket, to, it.bytes));
     }
 
     pub(super) fn ring(&self) {}

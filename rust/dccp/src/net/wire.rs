@@ -91,7 +91,7 @@ impl Wire {
         let to = self.peer.is_none().then_some(peer);
         match frames.first() {
             Some((frame, _)) if frames.len() == 1 => send_one(&self.socket, to, frame),
-            _ => self.system.send(&self.socket, to, frames.row()),
+            _ => self.system.send(&self.socket, to, frames),
         }
     }
 

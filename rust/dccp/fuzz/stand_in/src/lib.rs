@@ -4,9 +4,13 @@
 #[macro_export]
 macro_rules! fuzz_target {
     (|$data:ident: &[u8]| $body:block) => {
-        /// Called by libFuzzer with bytes that stay for the call.
+        /// Called by libFuzzer.
+        ///
+        /// # Safety
+        ///
+        /// There are so many bytes, which stay for the call.
         #[unsafe(no_mangle)]
-        pub extern "C" fn LLVMFuzzerTestOneInput(bytes: *const u8, length: usize) -> i32 {
+        pub unsafe extern "C" fn LLVMFuzzerTestOneInput(bytes: *const u8, length: usize) -> i32 {
             // SAFETY: libFuzzer gives so many bytes; of none the pointer may be null.
             let $data: &[u8] = if length == 0 {
                 &[]
