@@ -102,6 +102,12 @@ fn packets_come_whole_and_once() -> Outcome {
     assert!(4_000 < seen.iter().filter(|it| **it).count());
     assert_eq!(sender.statistics().sent.data, 5_002);
     assert!(matches!(receiver.try_recv(), Err(Error::WouldBlock)));
+    // The halves are of one connection.
+    assert_eq!(sender.peer_addr(), receiver.peer_addr());
+    assert_eq!(sender.feature(Feature::Ccid, Place::Here).value, 2);
+    assert_eq!((sender.end(), sender.longest_data(24)), (None, 0));
+    receiver.abort();
+    assert_eq!(sender.end(), Some(End::Aborted));
     Ok(())
 }
 

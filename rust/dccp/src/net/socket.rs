@@ -61,7 +61,7 @@ pub struct Receiver {
     owned: Arc<Owned>,
 }
 
-/// The peer of a socket.
+/// How a socket and its halves are shown: by the peer.
 macro_rules! shows {
     ($($name:ident)+) => {
         $(impl fmt::Debug for $name {
@@ -256,6 +256,40 @@ impl Socket {
     }
 }
 
+/// What both halves have of the whole.
+macro_rules! shares {
+    ($($name:ident)+) => {
+        $(impl $name {
+            /// As [`Socket::abort`].
+            pub fn abort(&self) {
+                self.owned.line.abort();
+            }
+
+            /// As [`Socket::end`].
+            pub fn end(&self) -> Option<End> {
+                self.owned.line.end()
+            }
+
+            /// As [`Socket::statistics`].
+            pub fn statistics(&self) -> Statistics {
+                self.owned.line.statistics()
+            }
+
+            /// As [`Socket::feature`].
+            pub fn feature(&self, feature: Feature, place: Place) -> Held {
+                self.owned.line.call(|it| it.feature(feature, place))
+            }
+
+            /// As [`Socket::peer_addr`].
+            pub fn peer_addr(&self) -> SocketAddr {
+                self.owned.line.peer()
+            }
+        })+
+    };
+}
+
+shares! { Sender Receiver }
+
 impl Sender {
     /// As [`Socket::send`].
     pub fn send(&self, data: &[u8]) -> Result<u64, Error> {
@@ -277,14 +311,25 @@ impl Sender {
         send_batch(&self.owned.line, packets)
     }
 
-    /// As [`Socket::statistics`].
-    pub fn statistics(&self) -> Statistics {
-        self.owned.line.statistics()
-    }
-
     /// As [`Socket::fate`].
     pub fn fate(&self, number: u64) -> Fate {
         self.owned.line.call(|it| it.fate(number))
+    }
+
+    /// As [`Socket::longest_data`].
+    pub fn longest_data(&self, most: usize) -> usize {
+        self.owned.line.call(|it| it.longest_data(most))
+    }
+
+    /// As [`Socket::prefer`].
+    pub fn prefer(
+        &self,
+        feature: Feature,
+        place: Place,
+        values: &[u64],
+    ) -> Result<(), PreferError> {
+        let line = &self.owned.line;
+        line.call(|it| it.prefer(feature, place, values, Instant::now()))
     }
 
     /// As [`Socket::close`], while the other half may still read what has arrived.
