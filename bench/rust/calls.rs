@@ -31,13 +31,13 @@ const RARE: u64 = 64;
 
 /// What calls of one kind took, and how many of them did what was asked.
 #[derive(Clone, Copy, Default)]
-struct Spent {
+struct CallCost {
     time: Duration,
     calls: usize,
     done: usize,
 }
 
-impl Spent {
+impl CallCost {
     /// Times so many calls, of which `doing` says how many did what was asked.
     fn time(&mut self, calls: usize, doing: impl FnOnce() -> usize) {
         let start = Instant::now();
@@ -48,19 +48,19 @@ impl Spent {
     }
 
     fn tell(&self, name: &str, size: usize) {
-        let Spent { time, calls, done } = self;
+        let CallCost { time, calls, done } = self;
         println!("{name} {size} {} {calls} {done}", time.as_nanos());
     }
 }
 
 /// The calls of one kind, and the yardstick for them.
 #[derive(Clone, Copy, Default)]
-struct Both {
-    calls: Spent,
-    copies: Spent,
+struct CallPair {
+    calls: CallCost,
+    copies: CallCost,
 }
 
-impl Both {
+impl CallPair {
     fn tell(&self, name: &str, size: usize) {
         self.calls.tell(name, size);
         self.copies.tell(&format!("copy-{name}"), size);
@@ -124,7 +124,7 @@ impl Bench {
         frames: impl Iterator<Item = &'a Frame>,
         count: usize,
         room: &mut [u8],
-        spent: &mut Spent,
+        spent: &mut CallCost,
     ) {
         let frames = frames.filter(|it| it.length > 0);
         spent.time(count, || {
@@ -135,7 +135,7 @@ impl Bench {
     }
 
     /// The end sends a batch, which reaches its peer.
-    fn send(&mut self, data: &[u8], sent: &mut Both) {
+    fn send(&mut self, data: &[u8], sent: &mut CallPair) {
         let Bench { end, turns, .. } = self;
         sent.calls.time(BATCH, || {
             turns
@@ -154,7 +154,7 @@ impl Bench {
     }
 
     /// What came back is copied, and then the end takes it: packets of this type.
-    fn take(&mut self, wanted: u8, both: &mut Both) {
+    fn take(&mut self, wanted: u8, both: &mut CallPair) {
         let count = self.count_back(wanted);
         Bench::time_copies(
             self.turns.iter().map(|it| &it.back),
@@ -186,7 +186,7 @@ impl Bench {
     }
 
     /// A batch of datagrams of one byte, which the end drops.
-    fn drop_all(&mut self, drops: &mut Spent) {
+    fn drop_all(&mut self, drops: &mut CallCost) {
         let Bench { end, turns, .. } = self;
         drops.time(BATCH, || {
             turns
@@ -197,14 +197,14 @@ impl Bench {
     }
 
     /// A batch that is sent, and the Acks that come back.
-    fn acks(&mut self, data: &[u8], sent: &mut Both, acks: &mut Both) {
+    fn acks(&mut self, data: &[u8], sent: &mut CallPair, acks: &mut CallPair) {
         self.send(data, sent);
         self.take(ACK, acks);
         self.settle();
     }
 
     /// A batch of Data.
-    fn data(&mut self, data: &[u8], both: &mut Both) {
+    fn data(&mut self, data: &[u8], both: &mut CallPair) {
         for turn in &mut self.turns {
             self.peer.send(data, 0, &mut turn.back);
         }
@@ -214,7 +214,7 @@ impl Bench {
     }
 
     /// A batch of DataAcks: the end sends, and its peer sends once it has that.
-    fn data_acks(&mut self, data: &[u8], both: &mut Both) {
+    fn data_acks(&mut self, data: &[u8], both: &mut CallPair) {
         for turn in &mut self.turns {
             self.end.send(data, 0, &mut turn.sent);
             if took(&mut self.peer, &turn.sent, &mut turn.back) {
@@ -239,11 +239,11 @@ fn rarely_acknowledging() -> Pair {
 /// What is measured.
 #[derive(Default)]
 struct Figures {
-    drops: Spent,
-    sent: Both,
-    acks: Both,
-    data: Both,
-    data_acks: Both,
+    drops: CallCost,
+    sent: CallPair,
+    acks: CallPair,
+    data: CallPair,
+    data_acks: CallPair,
 }
 
 impl Figures {

@@ -1,8 +1,10 @@
 //! The cases: what either end does, and how it has to end.
 
-use crate::kernel::Told;
+use crate::kernel::KernelCounts;
 use crate::own::{Counts, End, Plan, Role};
-use crate::wire::{ACK_RATIO, Addresses, Numbered, Passed, Path, SEQUENCE_WINDOW, Speaker};
+use crate::wire::{
+    ACK_RATIO, Addresses, NumberedFeature, Path, SEQUENCE_WINDOW, Speaker, WireTotals,
+};
 use dccp::{Feature, Place};
 use std::time::Duration;
 
@@ -10,11 +12,11 @@ use std::time::Duration;
 #[derive(Debug)]
 pub struct Outcome {
     pub own: Counts,
-    pub kernel: Told,
+    pub kernel: KernelCounts,
     /// What our end sent.
-    pub sent: Passed,
+    pub sent: WireTotals,
     /// What the kernel's end sent.
-    pub came: Passed,
+    pub came: WireTotals,
     /// Which end sent the first packet with data, and which the last.
     pub speakers: Option<(Speaker, Speaker)>,
 }
@@ -235,13 +237,13 @@ fn carried_and_wished(case: &Case, outcome: &Outcome) -> Vec<String> {
 fn kernel_asked(case: &Case, outcome: &Outcome) -> Vec<String> {
     let mut faults = carried(case, outcome);
     for (place, feature) in [SEQUENCE_WINDOW, ACK_RATIO].into_iter().enumerate() {
-        let is_it = |it: &&Numbered| it.feature == feature;
-        let changes: Vec<&Numbered> = outcome.came.changes.iter().filter(is_it).collect();
+        let is_it = |it: &&NumberedFeature| it.feature == feature;
+        let changes: Vec<&NumberedFeature> = outcome.came.changes.iter().filter(is_it).collect();
         let Some(last) = changes.last() else {
             faults.push(format!("the kernel never asked for feature {feature}"));
             continue;
         };
-        let confirmed = |it: &&Numbered| outcome.sent.confirms.contains(it);
+        let confirmed = |it: &&NumberedFeature| outcome.sent.confirms.contains(it);
         faults.extend(unless(changes.iter().all(confirmed), || {
             format!("our end did not confirm all of {changes:?}")
         }));

@@ -15,7 +15,7 @@ pub struct Kernel {
 
 /// What the helper has counted.
 #[derive(Clone, Debug, Default, PartialEq, Eq)]
-pub struct Told {
+pub struct KernelCounts {
     pub sent: u32,
     pub received: u32,
     pub repeated: u32,
@@ -73,12 +73,14 @@ impl Kernel {
     }
 
     /// What the helper has told by now, if it is done.
-    pub fn told(&self) -> Option<Told> {
-        self.lines.try_iter().find_map(|line| Told::of(&line))
+    pub fn told(&self) -> Option<KernelCounts> {
+        self.lines
+            .try_iter()
+            .find_map(|line| KernelCounts::of(&line))
     }
 
     /// Waits until the helper is done.
-    pub fn wait(&self, told: Option<Told>, most: Duration) -> io::Result<Told> {
+    pub fn wait(&self, told: Option<KernelCounts>, most: Duration) -> io::Result<KernelCounts> {
         let end = Instant::now() + most;
         let mut told = told;
         while told.is_none() {
@@ -87,26 +89,26 @@ impl Kernel {
                 .lines
                 .recv_timeout(left)
                 .map_err(|_| io::Error::new(io::ErrorKind::TimedOut, "the helper does not end"))?;
-            told = Told::of(&line);
+            told = KernelCounts::of(&line);
         }
         self.line_with("done", Duration::from_secs(10))?;
         Ok(told.unwrap_or_default())
     }
 }
 
-impl Told {
-    fn of(line: &str) -> Option<Told> {
+impl KernelCounts {
+    fn of(line: &str) -> Option<KernelCounts> {
         let (first, rest) = line.split_once(' ')?;
         match first {
-            "refused" | "fault" => Some(Told {
+            "refused" | "fault" => Some(KernelCounts {
                 end: rest.to_string(),
-                ..Told::default()
+                ..KernelCounts::default()
             }),
             "counts" => {
                 let words: Vec<&str> = rest.split_whitespace().collect();
                 let pairs: HashMap<&str, &str> = words.chunks(2).map(|it| (it[0], it[1])).collect();
                 let number = |name| pairs.get(name).and_then(|it| it.parse().ok()).unwrap_or(0);
-                Some(Told {
+                Some(KernelCounts {
                     sent: number("sent"),
                     received: number("received"),
                     repeated: number("repeated"),

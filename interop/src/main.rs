@@ -8,7 +8,7 @@ mod wire;
 
 use cases::{Case, Outcome};
 use kernel::Kernel;
-use own::Own;
+use own::OwnEnd;
 use std::error::Error;
 use std::io;
 use std::path::Path;
@@ -39,7 +39,7 @@ fn played(
             kernel.wait_for_listening()?;
         }
     }
-    let own = Own::new(&case.plan, wire)?;
+    let own = OwnEnd::new(&case.plan, wire)?;
     let has_kernel = case.kernel.is_some();
     let counts = own.play(|| {
         if told.is_none() && has_kernel {

@@ -88,7 +88,7 @@ pub struct Counts {
     pub features: Vec<(u64, bool)>,
 }
 
-pub struct Own<'a> {
+pub struct OwnEnd<'a> {
     plan: &'a Plan,
     wire: &'a mut Wire,
     connection: Option<Connection>,
@@ -106,8 +106,11 @@ fn payload(index: u32, size: usize) -> Vec<u8> {
     index.to_be_bytes().into_iter().chain(numbered).collect()
 }
 
-impl<'a> Own<'a> {
-    pub fn new(plan: &'a Plan, wire: &'a mut Wire) -> Result<Own<'a>, Box<dyn std::error::Error>> {
+impl<'a> OwnEnd<'a> {
+    pub fn new(
+        plan: &'a Plan,
+        wire: &'a mut Wire,
+    ) -> Result<OwnEnd<'a>, Box<dyn std::error::Error>> {
         let (here, there) = (wire.addresses().own(), wire.addresses().kernel());
         let config = match plan.role {
             Role::Client => Config::client(
@@ -124,7 +127,7 @@ impl<'a> Own<'a> {
             ),
         };
         let config = plan.configured(config);
-        let mut own = Own {
+        let mut own = OwnEnd {
             plan,
             wire,
             connection: None,

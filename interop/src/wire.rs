@@ -55,7 +55,7 @@ pub enum Speaker {
 
 /// A feature whose value is a number, as an option names it (RFC 4340, section 6.4), and that number.
 #[derive(Clone, Copy, Debug, PartialEq, Eq)]
-pub struct Numbered {
+pub struct NumberedFeature {
     pub feature: u8,
     pub value: u64,
 }
@@ -70,7 +70,7 @@ const CONFIRM_R: u8 = 35;
 
 /// What went over the wire in one direction.
 #[derive(Clone, Debug, Default, PartialEq, Eq)]
-pub struct Passed {
+pub struct WireTotals {
     /// Packets with data, before any was lost.
     pub data: u32,
     /// Packets with data that were lost.
@@ -80,9 +80,9 @@ pub struct Passed {
     /// The code of the last Reset.
     pub reset: Option<u8>,
     /// What was asked for by Change L once the connection was open, of Sequence Window and Ack Ratio.
-    pub changes: Vec<Numbered>,
+    pub changes: Vec<NumberedFeature>,
     /// What was confirmed by Confirm R then, of the same.
-    pub confirms: Vec<Numbered>,
+    pub confirms: Vec<NumberedFeature>,
 }
 
 /// A generator of random numbers (xorshift; own): what is lost is the same in each run.
@@ -103,8 +103,8 @@ pub struct Wire {
     capture: Option<BufWriter<File>>,
     path: Path,
     dice: Dice,
-    pub sent: Passed,
-    pub came: Passed,
+    pub sent: WireTotals,
+    pub came: WireTotals,
     /// Which end sent the first packet with data, and which the last.
     pub speakers: Option<(Speaker, Speaker)>,
 }
@@ -135,8 +135,8 @@ impl Wire {
                 lost_reset: None,
             },
             dice: Dice(1),
-            sent: Passed::default(),
-            came: Passed::default(),
+            sent: WireTotals::default(),
+            came: WireTotals::default(),
             speakers: None,
         })
     }
@@ -150,7 +150,8 @@ impl Wire {
         file.write_all(&LINK.to_le_bytes())?;
         self.capture = Some(file);
         (self.path, self.dice) = (path, Dice(0x9e37_79b9_7f4a_7c15));
-        (self.sent, self.came, self.speakers) = (Passed::default(), Passed::default(), None);
+        (self.sent, self.came, self.speakers) =
+            (WireTotals::default(), WireTotals::default(), None);
         Ok(())
     }
 
@@ -248,7 +249,7 @@ fn options(packet: &[u8]) -> &[u8] {
 }
 
 /// What options of this type say of Sequence Window and Ack Ratio.
-fn numbered(mut options: &[u8], wanted: u8) -> Vec<Numbered> {
+fn numbered(mut options: &[u8], wanted: u8) -> Vec<NumberedFeature> {
     let mut found = Vec::new();
     while let [kind, rest @ ..] = options {
         // Those below 32 are of one byte.
@@ -260,7 +261,7 @@ fn numbered(mut options: &[u8], wanted: u8) -> Vec<Numbered> {
         if let [kind, _, feature @ (SEQUENCE_WINDOW | ACK_RATIO), value @ ..] = &options[..length]
             && *kind == wanted
         {
-            found.push(Numbered {
+            found.push(NumberedFeature {
                 feature: *feature,
                 value: value.iter().fold(0, |all, it| all << 8 | u64::from(*it)),
             });
@@ -270,7 +271,7 @@ fn numbered(mut options: &[u8], wanted: u8) -> Vec<Numbered> {
     found
 }
 
-fn count(passed: &mut Passed, packet: &[u8], is_lost: bool) {
+fn count(passed: &mut WireTotals, packet: &[u8], is_lost: bool) {
     passed.changes.extend(numbered(options(packet), CHANGE_L));
     passed.confirms.extend(numbered(options(packet), CONFIRM_R));
     match kind(packet) {

@@ -3,7 +3,7 @@
 use crate::endpoint::{Outcome, Timer};
 use crate::features::{ACK_RATIO, CCID, Features, Place, SEQUENCE_WINDOW};
 use crate::tell::put;
-use crate::world::{Event, Given, Side, World, usual_end};
+use crate::world::{Event, EventResult, Side, World, usual_end};
 use std::ops::AddAssign;
 use std::sync::Mutex;
 use std::sync::atomic::{AtomicU64, Ordering};
@@ -91,18 +91,18 @@ impl Counts {
         ]
     }
 
-    fn count(&mut self, given: &Given) {
+    fn count(&mut self, given: &EventResult) {
         match given {
-            Given::Called(Err(_)) => self.refused += 1,
-            Given::Called(Ok(())) | Given::Rang(_) => {}
-            Given::Heard(Outcome::Took(data)) => {
+            EventResult::Called(Err(_)) => self.refused += 1,
+            EventResult::Called(Ok(())) | EventResult::Rang(_) => {}
+            EventResult::Heard(Outcome::Took(data)) => {
                 self.took += 1;
                 self.delivered += u64::from(data.is_some());
             }
-            Given::Heard(Outcome::Dropped(_)) => self.dropped += 1,
-            Given::Heard(Outcome::Synced(_)) => self.synced += 1,
-            Given::Heard(Outcome::WasReset(_)) => self.was_reset += 1,
-            Given::Heard(Outcome::SentReset(..)) => self.sent_reset += 1,
+            EventResult::Heard(Outcome::Dropped(_)) => self.dropped += 1,
+            EventResult::Heard(Outcome::Synced(_)) => self.synced += 1,
+            EventResult::Heard(Outcome::WasReset(_)) => self.was_reset += 1,
+            EventResult::Heard(Outcome::SentReset(..)) => self.sent_reset += 1,
         }
     }
 }

@@ -3,8 +3,8 @@
 use crate::buffer::Buffer;
 use crate::congestion::Congestion;
 use crate::features::{
-    ACK_RATIO, CCID, Counted, Features, Place, SEND_ACK_VECTOR, SEQUENCE_WINDOW, SHORT_SEQNOS,
-    Stand, Wish, WishFault,
+    ACK_RATIO, CCID, CountedOptions, Features, Place, SEND_ACK_VECTOR, SEQUENCE_WINDOW,
+    SHORT_SEQNOS, Stand, Wish, WishFault,
 };
 use crate::marks::{Marked, Marks};
 use crate::numbers::{ahead, back, distance, is_before, is_within, later};
@@ -650,7 +650,7 @@ impl Endpoint {
             .kind
             .has_acknowledgement()
             .then_some(packet.acknowledged);
-        let mut counted = Counted::default();
+        let mut counted = CountedOptions::default();
         let mut before = None;
         let mut fault = None;
         for item in List::of(packet.kind, packet.options) {

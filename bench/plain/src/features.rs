@@ -151,12 +151,12 @@ pub struct FeatureFault {
 
 /// Which of a packet's Changes and Confirms counted already.
 #[derive(Clone, Debug, Default)]
-pub struct Counted {
+pub struct CountedOptions {
     seen: [u64; 8],
     changes: usize,
 }
 
-impl Counted {
+impl CountedOptions {
     /// Whether this Change or Confirm counts, as the first of its feature and letter.
     fn counts(&mut self, kind: u8, feature: u8) -> bool {
         let is_change = matches!(kind, CHANGE_L | CHANGE_R);
@@ -240,7 +240,7 @@ impl Features {
         &mut self,
         entry: &Entry<'_>,
         acknowledged: Option<u64>,
-        counted: &mut Counted,
+        counted: &mut CountedOptions,
         confirms: &mut Vec<u8>,
     ) -> Result<(), FeatureFault> {
         let (feature, data) = (entry.data[0], &entry.data[1..]);

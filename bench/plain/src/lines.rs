@@ -27,17 +27,17 @@ pub enum Why {
 
 /// A line that is refused, at a column from 1.
 #[derive(Clone, Copy, Debug)]
-pub struct Refused {
+pub struct LineRefusal {
     pub column: usize,
     pub why: Why,
 }
 
-pub fn refused<T>(column: usize, why: Why) -> Result<T, Refused> {
-    Err(Refused { column, why })
+pub fn refused<T>(column: usize, why: Why) -> Result<T, LineRefusal> {
+    Err(LineRefusal { column, why })
 }
 
 /// The lines of an input, each judged as a line.
-pub fn lines(input: &[u8]) -> impl Iterator<Item = Result<&str, Refused>> {
+pub fn lines(input: &[u8]) -> impl Iterator<Item = Result<&str, LineRefusal>> {
     let mut at = 0;
     std::iter::from_fn(move || {
         let rest = &input[at..];
@@ -54,7 +54,7 @@ pub fn lines(input: &[u8]) -> impl Iterator<Item = Result<&str, Refused>> {
     })
 }
 
-fn judged(window: &[u8], end: Option<usize>, begin: usize) -> Result<&str, Refused> {
+fn judged(window: &[u8], end: Option<usize>, begin: usize) -> Result<&str, LineRefusal> {
     let length = end.unwrap_or(window.len());
     // The newline, or the byte that is too much, or the end of the input.
     let place = begin
@@ -101,7 +101,7 @@ impl<'a> Words<'a> {
         Some(rest.split_once(' ').map_or(rest, |(word, _)| word))
     }
 
-    pub fn next(&mut self) -> Result<(usize, &'a str), Refused> {
+    pub fn next(&mut self) -> Result<(usize, &'a str), LineRefusal> {
         let Some(at) = self.at else {
             return refused(self.line.len() + 2, Why::Missing);
         };
@@ -123,7 +123,7 @@ impl<'a> Words<'a> {
     }
 
     /// Nothing more may follow.
-    pub fn end(&self) -> Result<(), Refused> {
+    pub fn end(&self) -> Result<(), LineRefusal> {
         match self.at {
             Some(at) => refused(at + 1, Why::Trailing),
             None => Ok(()),
@@ -131,7 +131,7 @@ impl<'a> Words<'a> {
     }
 
     /// The next word as one of these.
-    pub fn one_of<T: Copy>(&mut self, known: &[(&str, T)]) -> Result<T, Refused> {
+    pub fn one_of<T: Copy>(&mut self, known: &[(&str, T)]) -> Result<T, LineRefusal> {
         let (column, word) = self.next()?;
         match known.iter().find(|(name, _)| *name == word) {
             Some((_, value)) => Ok(*value),
@@ -140,7 +140,7 @@ impl<'a> Words<'a> {
     }
 
     /// The next word as a number below a limit.
-    pub fn number(&mut self, limit: u64) -> Result<u64, Refused> {
+    pub fn number(&mut self, limit: u64) -> Result<u64, LineRefusal> {
         let (column, word) = self.next()?;
         match number(word) {
             Some(value) if value < limit => Ok(value),
@@ -149,7 +149,7 @@ impl<'a> Words<'a> {
     }
 
     /// The next word as bytes, which are put into `out`.
-    pub fn hex(&mut self, out: &mut Vec<u8>) -> Result<usize, Refused> {
+    pub fn hex(&mut self, out: &mut Vec<u8>) -> Result<usize, LineRefusal> {
         let (column, word) = self.next()?;
         match unhex(word.as_bytes(), out) {
             Ok(()) => Ok(column),

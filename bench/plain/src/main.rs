@@ -18,7 +18,7 @@ mod tell;
 mod world;
 
 use crate::lines::number;
-use crate::replay::Makings;
+use crate::replay::ReplaySetup;
 use crate::world::Side;
 use std::env;
 use std::io::{self, Read, Write};
@@ -30,7 +30,7 @@ const USAGE: &str = "usage: plain run | replay --side server|client [--plain] [-
 enum Form {
     Run,
     Show,
-    Replay(Makings),
+    Replay(ReplaySetup),
     Campaign {
         first: u64,
         seeds: u64,
@@ -94,7 +94,7 @@ fn form(words: &[String]) -> Option<Form> {
                 None => None,
                 Some(word) => Some(within(&word, 1, 1_024)? as usize),
             };
-            Some(Form::Replay(Makings {
+            Some(Form::Replay(ReplaySetup {
                 side,
                 is_plain: is_plain.is_some(),
                 buffer,

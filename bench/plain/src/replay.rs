@@ -3,14 +3,14 @@
 use crate::buffer::Buffer;
 use crate::endpoint::Outcome;
 use crate::features::Features;
-use crate::lines::{Refused, Why, Words, lines, put_hex, put_number, refused, says};
+use crate::lines::{LineRefusal, Why, Words, lines, put_hex, put_number, refused, says};
 use crate::packet::{Addresses, MOST_FRAME, seal};
 use crate::tell::{put, put_end, put_outcome, put_refused, put_sent};
 use crate::world::{Side, usual_end};
 
 /// What a replay is made from.
 #[derive(Clone, Copy, Debug)]
-pub struct Makings {
+pub struct ReplaySetup {
     pub side: Side,
     pub is_plain: bool,
     pub buffer: Option<usize>,
@@ -26,7 +26,7 @@ struct Replay {
 }
 
 /// Plays a replay. Returns whether all its lines were played.
-pub fn replay(makings: Makings, input: &[u8], out: &mut Vec<u8>) -> bool {
+pub fn replay(makings: ReplaySetup, input: &[u8], out: &mut Vec<u8>) -> bool {
     let (own, first) = match makings.side {
         Side::Client => ([10, 0, 0, 1], 1_000),
         Side::Server => ([10, 0, 0, 2], 2_000),
@@ -79,7 +79,7 @@ impl Replay {
         }
     }
 
-    fn line(&mut self, number: usize, line: &str, out: &mut Vec<u8>) -> Result<(), Refused> {
+    fn line(&mut self, number: usize, line: &str, out: &mut Vec<u8>) -> Result<(), LineRefusal> {
         if let Some(buffer) = &mut self.buffer
             && matches!(line, "read" | "stop")
         {

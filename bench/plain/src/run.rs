@@ -2,7 +2,7 @@
 
 use crate::endpoint::Timer;
 use crate::features::{FEATURES, Features, Place, Wish, WishFault, is_negotiable};
-use crate::lines::{Refused, Why, Words, lines, number, put_number, refused, says};
+use crate::lines::{LineRefusal, Why, Words, lines, number, put_number, refused, says};
 use crate::tell::{put, put_end, put_given, put_refused, put_sent};
 use crate::world::{Event, Side, World, usual_end};
 
@@ -54,13 +54,13 @@ const VERBS: [(&str, Verb); 12] = [
 ];
 
 /// How the ends of a schedule are made.
-struct Makings {
+struct WorldSetup {
     client: (u64, Features),
     server: (u64, Features),
     has_two_vectors: bool,
 }
 
-impl Makings {
+impl WorldSetup {
     fn of(&mut self, side: Side) -> &mut (u64, Features) {
         match side {
             Side::Client => &mut self.client,
@@ -80,7 +80,7 @@ impl Makings {
 
 /// A schedule that is played.
 struct Run {
-    makings: Makings,
+    makings: WorldSetup,
     world: Option<World>,
     has_said: bool,
     events: usize,
@@ -90,7 +90,7 @@ struct Run {
 
 /// Plays a schedule. Returns whether all its lines were played.
 pub fn run(input: &[u8], out: &mut Vec<u8>) -> bool {
-    let makings = Makings {
+    let makings = WorldSetup {
         client: (1_000, Features::new(false)),
         server: (2_000, Features::new(true)),
         has_two_vectors: false,
@@ -124,7 +124,7 @@ pub fn run(input: &[u8], out: &mut Vec<u8>) -> bool {
 }
 
 impl Run {
-    fn line(&mut self, number: usize, line: &str, out: &mut Vec<u8>) -> Result<(), Refused> {
+    fn line(&mut self, number: usize, line: &str, out: &mut Vec<u8>) -> Result<(), LineRefusal> {
         let mut words = Words::of(line);
         let verb = words.one_of(&VERBS)?;
         match verb {
@@ -145,7 +145,7 @@ impl Run {
         Ok(())
     }
 
-    fn is_late(&self, is_late: bool) -> Result<(), Refused> {
+    fn is_late(&self, is_late: bool) -> Result<(), LineRefusal> {
         if is_late {
             refused(1, Why::HeaderLate)
         } else {
@@ -153,7 +153,7 @@ impl Run {
         }
     }
 
-    fn header(&mut self, verb: Verb, words: &mut Words<'_>) -> Result<(), Refused> {
+    fn header(&mut self, verb: Verb, words: &mut Words<'_>) -> Result<(), LineRefusal> {
         let has_begun = self.world.is_some();
         match verb {
             Verb::Version => {
@@ -214,7 +214,7 @@ impl Run {
     }
 
     /// Reads values; gives their column.
-    fn values(&mut self, words: &mut Words<'_>) -> Result<usize, Refused> {
+    fn values(&mut self, words: &mut Words<'_>) -> Result<usize, LineRefusal> {
         let (column, word) = words.next()?;
         self.values.clear();
         for part in word.split(',') {
@@ -235,7 +235,7 @@ impl Run {
         at: usize,
         line: &str,
         out: &mut Vec<u8>,
-    ) -> Result<(), Refused> {
+    ) -> Result<(), LineRefusal> {
         let mut column = 1;
         let mut values = Vec::new();
         let event = match verb {
@@ -304,7 +304,7 @@ impl Run {
     }
 }
 
-fn feature(words: &mut Words<'_>) -> Result<u8, Refused> {
+fn feature(words: &mut Words<'_>) -> Result<u8, LineRefusal> {
     let (column, word) = words.next()?;
     match number(word) {
         Some(feature) if (1..=u64::from(FEATURES)).contains(&feature) => Ok(feature as u8),

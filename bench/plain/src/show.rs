@@ -59,7 +59,7 @@ impl Format {
 }
 
 /// What IP carries.
-struct Carried<'a> {
+struct IpPayload<'a> {
     /// What of the packet was captured.
     bytes: &'a [u8],
     /// How long it is.
@@ -69,7 +69,7 @@ struct Carried<'a> {
 }
 
 /// What of a record's bytes is DCCP; None of every other record.
-fn carried(format: Format, record: &[u8]) -> Option<Carried<'_>> {
+fn carried(format: Format, record: &[u8]) -> Option<IpPayload<'_>> {
     let mut packet = record;
     let mut wanted = None;
     if format.is_ethernet {
@@ -97,7 +97,7 @@ fn carried(format: Format, record: &[u8]) -> Option<Carried<'_>> {
             }
             let length = total - header;
             let bytes = &packet[header..packet.len().min(total)];
-            Some(Carried {
+            Some(IpPayload {
                 bytes,
                 length,
                 from: &packet[12..16],
@@ -110,7 +110,7 @@ fn carried(format: Format, record: &[u8]) -> Option<Carried<'_>> {
             }
             let length = usize::from(packet[4]) << 8 | usize::from(packet[5]);
             let bytes = &packet[40..packet.len().min(40 + length)];
-            Some(Carried {
+            Some(IpPayload {
                 bytes,
                 length,
                 from: &packet[8..24],
@@ -232,7 +232,7 @@ impl Show<'_> {
         put_number(u64::from(port), self.out);
     }
 
-    fn put_packet(&mut self, carried: &Carried<'_>, packet: &Packet<'_>, is_whole: bool) {
+    fn put_packet(&mut self, carried: &IpPayload<'_>, packet: &Packet<'_>, is_whole: bool) {
         let port = |at: usize| u16::from_be_bytes([carried.bytes[at], carried.bytes[at + 1]]);
         let corner = |address: &[u8], port| {
             let mut whole = [0; 16];
@@ -282,7 +282,7 @@ impl Show<'_> {
 }
 
 /// The verdict on the checksum; None if bytes of the packet were not captured.
-fn check_captured(carried: &Carried<'_>, is_whole: bool) -> Option<Result<(), Cause>> {
+fn check_captured(carried: &IpPayload<'_>, is_whole: bool) -> Option<Result<(), Cause>> {
     is_whole.then(|| check(Addresses::new(carried.from, carried.to), carried.bytes))
 }
 

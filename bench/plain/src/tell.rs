@@ -2,8 +2,8 @@
 
 use crate::endpoint::{Endpoint, Outcome};
 use crate::features::{FEATURES, Place, Stand};
-use crate::lines::{Refused, put_hex, put_number};
-use crate::world::{Given, Side};
+use crate::lines::{LineRefusal, put_hex, put_number};
+use crate::world::{EventResult, Side};
 
 pub fn put(text: &str, out: &mut Vec<u8>) {
     out.extend_from_slice(text.as_bytes());
@@ -27,13 +27,13 @@ pub fn put_outcome(outcome: &Outcome, frame: &[u8], out: &mut Vec<u8>) {
     }
 }
 
-pub fn put_given(given: &Given, frame: &[u8], out: &mut Vec<u8>) {
+pub fn put_given(given: &EventResult, frame: &[u8], out: &mut Vec<u8>) {
     match given {
-        Given::Called(Ok(())) => put("ok", out),
-        Given::Called(Err(refusal)) => put(&format!("refused {refusal:?}"), out),
-        Given::Rang(true) => put("fired", out),
-        Given::Rang(false) => put("idle", out),
-        Given::Heard(outcome) => put_outcome(outcome, frame, out),
+        EventResult::Called(Ok(())) => put("ok", out),
+        EventResult::Called(Err(refusal)) => put(&format!("refused {refusal:?}"), out),
+        EventResult::Rang(true) => put("fired", out),
+        EventResult::Rang(false) => put("idle", out),
+        EventResult::Heard(outcome) => put_outcome(outcome, frame, out),
     }
 }
 
@@ -77,7 +77,7 @@ pub fn put_end(side: Side, end: &Endpoint, out: &mut Vec<u8>) {
 }
 
 /// The line of a refusal.
-pub fn put_refused(line: usize, refused: Refused, out: &mut Vec<u8>) {
+pub fn put_refused(line: usize, refused: LineRefusal, out: &mut Vec<u8>) {
     put(
         &format!("line {line} column {}: {:?}\n", refused.column, refused.why),
         out,

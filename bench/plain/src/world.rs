@@ -44,7 +44,7 @@ pub enum Event<'a> {
 
 /// What an event gave.
 #[derive(Clone, Debug)]
-pub enum Given {
+pub enum EventResult {
     Called(Result<(), Refusal>),
     Rang(bool),
     /// What became of the frame with this index.
@@ -136,24 +136,24 @@ impl World {
     }
 
     /// Lets an event happen. Gives the side that acted, and what that gave; None if the frame is not there.
-    pub fn step(&mut self, event: Event<'_>) -> Option<(Side, Given)> {
+    pub fn step(&mut self, event: Event<'_>) -> Option<(Side, EventResult)> {
         let (side, given) = match event {
-            Event::Open => (Side::Client, Given::Called(self.client.open())),
+            Event::Open => (Side::Client, EventResult::Called(self.client.open())),
             Event::Deliver(from, index) => {
                 let outcome = match from {
                     Side::Client => self.server.receive(self.from_client.get(index)?),
                     Side::Server => self.client.receive(self.from_server.get(index)?),
                 };
-                (from.other(), Given::Heard(outcome))
+                (from.other(), EventResult::Heard(outcome))
             }
-            Event::Send(side, data) => (side, Given::Called(self.end_mut(side).send(data))),
+            Event::Send(side, data) => (side, EventResult::Called(self.end_mut(side).send(data))),
             Event::Prefer(side, place, feature, values) => (
                 side,
-                Given::Called(self.end_mut(side).prefer(feature, place, values)),
+                EventResult::Called(self.end_mut(side).prefer(feature, place, values)),
             ),
-            Event::Timer(side, timer) => (side, Given::Rang(self.end_mut(side).timer(timer))),
-            Event::Close(side) => (side, Given::Called(self.end_mut(side).close())),
-            Event::Abort(side) => (side, Given::Called(self.end_mut(side).abort())),
+            Event::Timer(side, timer) => (side, EventResult::Rang(self.end_mut(side).timer(timer))),
+            Event::Close(side) => (side, EventResult::Called(self.end_mut(side).close())),
+            Event::Abort(side) => (side, EventResult::Called(self.end_mut(side).abort())),
         };
         match side {
             Side::Client if !self.client.frame.is_empty() => {

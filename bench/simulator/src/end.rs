@@ -33,22 +33,22 @@ pub trait End: fmt::Debug + Send {
 
 /// An end that its connection drives alone.
 #[derive(Debug)]
-pub struct Alone {
+pub struct LoneEnd {
     connection: Connection,
     timeouts: u64,
 }
 
-impl Alone {
+impl LoneEnd {
     /// The end of this connection.
-    pub fn new(connection: Connection) -> Alone {
-        Alone {
+    pub fn new(connection: Connection) -> LoneEnd {
+        LoneEnd {
             connection,
             timeouts: 0,
         }
     }
 }
 
-impl End for Alone {
+impl End for LoneEnd {
     fn open(&mut self, now: Instant) {
         self.connection.open(now).expect("it is fresh");
     }

@@ -1,6 +1,6 @@
 //! The two ends of a path, in the manners in which they are driven.
 
-use crate::end::{Alone, End, Flow};
+use crate::end::{End, Flow, LoneEnd};
 use crate::owner::Owner;
 use crate::rules::OFFERED_WIDTH;
 use dccp::{Accepted, Config, Connection, Feature, Place};
@@ -19,7 +19,7 @@ pub enum Manner {
 }
 
 /// What a datagram of an unknown peer makes.
-pub enum Made {
+pub enum StrangerResult {
     /// A server's end.
     End(Box<dyn End>),
     /// No end, and an answer.
@@ -81,24 +81,30 @@ pub fn client(manner: Manner, wishes: Wishes, first: u64, now: Instant) -> Box<d
     let config = configured(config, manner, wishes);
     let connection = Connection::new(&config).expect("the wishes are permitted");
     match manner {
-        Manner::Classic | Manner::Usual => Box::new(Alone::new(connection)),
+        Manner::Classic | Manner::Usual => Box::new(LoneEnd::new(connection)),
         Manner::Reference => Box::new(Owner::new(connection, now)),
     }
 }
 
 /// What a server makes of an unknown peer's datagram.
-pub fn server(manner: Manner, wishes: Wishes, first: u64, datagram: &[u8], now: Instant) -> Made {
+pub fn server(
+    manner: Manner,
+    wishes: Wishes,
+    first: u64,
+    datagram: &[u8],
+    now: Instant,
+) -> StrangerResult {
     let (here, there) = addresses();
     let config = Config::server(there.into(), here.into(), SERVICE, first);
     let config = configured(config, manner, wishes);
     match Connection::accept(&config, datagram, now).expect("the wishes are permitted") {
-        Accepted::Connection(connection) => Made::End(match manner {
-            Manner::Classic | Manner::Usual => Box::new(Alone::new(*connection)),
+        Accepted::Connection(connection) => StrangerResult::End(match manner {
+            Manner::Classic | Manner::Usual => Box::new(LoneEnd::new(*connection)),
             Manner::Reference => Box::new(Owner::accepted(*connection, now)),
         }),
-        Accepted::Answer(answer) => Made::Answer(answer.bytes),
+        Accepted::Answer(answer) => StrangerResult::Answer(answer.bytes),
         // It is no Request, or the crate has a further variant.
-        _ => Made::Nothing,
+        _ => StrangerResult::Nothing,
     }
 }
 

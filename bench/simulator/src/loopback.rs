@@ -1,7 +1,7 @@
 //! Two ends over sockets of the loopback, through a relay that delays and loses, beside the same path in counted time.
 
 use crate::end::End;
-use crate::ends::{self, Made, Manner, Wishes};
+use crate::ends::{self, Manner, StrangerResult, Wishes};
 use crate::link::{Capacity, Link, Loss, MILLISECOND, Micros, SECOND, Way};
 use crate::random::Random;
 use crate::run::{Load, Scenario, Sender, run};
@@ -226,8 +226,10 @@ fn receive(socket: &UdpSocket, is_over: &AtomicBool, delivered: &AtomicU64) {
                 )
             });
             match made {
-                Ok(Made::End(end)) => server = Some(end),
-                Ok(Made::Answer(_) | Made::Nothing) | Err(_) => thread::sleep(NAP),
+                Ok(StrangerResult::End(end)) => server = Some(end),
+                Ok(StrangerResult::Answer(_) | StrangerResult::Nothing) | Err(_) => {
+                    thread::sleep(NAP)
+                }
             }
             continue;
         };

@@ -3,9 +3,9 @@
 use crate::end::End;
 use crate::frame::{self, ACK, DATA_ACK, Numbers, SYNC, SYNC_ACK};
 use crate::rules::{
-    AckRatio, Bucket, CLOSE_LIMIT, FIRST_ACK_WAIT, Greatest, LONGEST_ACK_WAIT, LONGEST_PROBE,
-    LONGEST_PROBE_WAIT, LONGEST_WAIT, PROBED_WINDOW, QUESTION_WAIT, REQUEST_LIMIT, RESPOND_LIMIT,
-    RoundTrip, SILENCE, SILENCE_LIMIT, Use, distance, is_at_or_after,
+    AckRatio, Bucket, CLOSE_LIMIT, FIRST_ACK_WAIT, LONGEST_ACK_WAIT, LONGEST_PROBE,
+    LONGEST_PROBE_WAIT, LONGEST_WAIT, MostInFlight, PROBED_WINDOW, QUESTION_WAIT, REQUEST_LIMIT,
+    RESPOND_LIMIT, RoundTrip, SILENCE, SILENCE_LIMIT, Use, distance, is_at_or_after,
 };
 use dccp::{Connection, Event, Feature, Phase, Place, Timer};
 use std::collections::VecDeque;
@@ -62,7 +62,7 @@ pub struct Owner {
     timed: Option<(u64, u64)>,
     /// Since when what is in flight waits.
     waits_since: u64,
-    greatest: Greatest,
+    greatest: MostInFlight,
     ratio: AckRatio,
     probe: Option<Probe>,
     near: Bucket,
@@ -76,7 +76,7 @@ pub struct Owner {
 }
 
 /// What is read of a connection before a datagram.
-struct Before {
+struct StateBefore {
     phase: Phase,
     in_flight: u32,
     received: u64,
@@ -96,7 +96,7 @@ impl Owner {
             asked: Vec::new(),
             timed: None,
             waits_since: 0,
-            greatest: Greatest::default(),
+            greatest: MostInFlight::default(),
             ratio: AckRatio::default(),
             probe: None,
             near: Bucket::new(20),
@@ -343,7 +343,7 @@ impl Owner {
     }
 
     /// What follows a datagram that the connection has heard.
-    fn heard(&mut self, before: &Before, now: Instant, time: u64) {
+    fn heard(&mut self, before: &StateBefore, now: Instant, time: u64) {
         let (delivers, acknowledges) = self.gather();
         let numbers = self.connection.numbers();
         if numbers.greatest_received != before.received {
@@ -446,7 +446,7 @@ impl End for Owner {
         if self.is_left_out(datagram, time) {
             return;
         }
-        let before = Before {
+        let before = StateBefore {
             phase: self.connection.phase(),
             in_flight: self.connection.in_flight(),
             received: self.connection.numbers().greatest_received,

@@ -110,13 +110,13 @@ impl RoundTrip {
 
 /// How many packets were in flight at most, in this period and in the last. A period is a round trip, and at least 200 milliseconds.
 #[derive(Clone, Copy, Debug, Default)]
-pub struct Greatest {
+pub struct MostInFlight {
     begun: u64,
     this: u32,
     last: u32,
 }
 
-impl Greatest {
+impl MostInFlight {
     /// So many are in flight.
     pub fn see(&mut self, in_flight: u32, now: u64, period: u64) {
         if now - self.begun >= period {

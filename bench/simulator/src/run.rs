@@ -1,7 +1,7 @@
 //! One run of a path: two ends, what one of them sends, and the result.
 
 use crate::end::End;
-use crate::ends::{self, Made, Manner, Wishes, addresses};
+use crate::ends::{self, Manner, StrangerResult, Wishes, addresses};
 use crate::frame::{self, SYNC};
 use crate::link::{Link, MILLISECOND, Micros, SECOND, Way};
 use crate::random::Random;
@@ -110,7 +110,7 @@ pub struct Point {
 
 /// Something that will happen.
 #[derive(Debug, PartialEq, Eq, PartialOrd, Ord)]
-enum Coming {
+enum Delivery {
     ToServer(Vec<u8>),
     ToClient(Vec<u8>),
 }
@@ -128,7 +128,7 @@ struct Run {
     server: Option<Box<dyn End>>,
     to_server: Link,
     to_client: Link,
-    coming: BinaryHeap<Reverse<(Micros, u64, Coming)>>,
+    coming: BinaryHeap<Reverse<(Micros, u64, Delivery)>>,
     order: u64,
     random: Random,
     scenario: Scenario,
@@ -234,11 +234,11 @@ impl Run {
     fn arrive(&mut self) {
         let now = self.instant();
         match self.coming.pop() {
-            Some(Reverse((_, _, Coming::ToClient(frame)))) => {
+            Some(Reverse((_, _, Delivery::ToClient(frame)))) => {
                 self.client.receive(&frame, now);
                 self.after_client();
             }
-            Some(Reverse((_, _, Coming::ToServer(frame)))) => {
+            Some(Reverse((_, _, Delivery::ToServer(frame)))) => {
                 match &mut self.server {
                     Some(server) => server.receive(&frame, now),
                     None => self.accept(&frame),
@@ -261,9 +261,9 @@ impl Run {
             return;
         }
         match ends::server(self.manners.1, wishes, first, frame, now) {
-            Made::End(end) => self.server = Some(end),
-            Made::Answer(answer) => self.put_to_client(answer),
-            Made::Nothing => {}
+            StrangerResult::End(end) => self.server = Some(end),
+            StrangerResult::Answer(answer) => self.put_to_client(answer),
+            StrangerResult::Nothing => {}
         }
     }
 
@@ -434,7 +434,7 @@ impl Run {
         self.outcome.syncs += u64::from(frame::kind(&frame) == Some(SYNC));
         self.outcome.frames_back += u64::from(!self.scenario.sender.is_client());
         if let Some(time) = self.to_server.carry(frame.len(), self.now) {
-            self.put(time, Coming::ToServer(frame));
+            self.put(time, Delivery::ToServer(frame));
         }
     }
 
@@ -442,11 +442,11 @@ impl Run {
         self.outcome.syncs += u64::from(frame::kind(&frame) == Some(SYNC));
         self.outcome.frames_back += u64::from(self.scenario.sender.is_client());
         if let Some(time) = self.to_client.carry(frame.len(), self.now) {
-            self.put(time, Coming::ToClient(frame));
+            self.put(time, Delivery::ToClient(frame));
         }
     }
 
-    fn put(&mut self, time: Micros, coming: Coming) {
+    fn put(&mut self, time: Micros, coming: Delivery) {
         self.order += 1;
         self.coming.push(Reverse((time, self.order, coming)));
     }

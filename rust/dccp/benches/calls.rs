@@ -14,12 +14,12 @@ use std::sync::atomic::{AtomicUsize, Ordering};
 use std::time::{Duration, Instant};
 
 /// The system's allocator, which counts.
-struct Counting;
+struct CountingAllocator;
 
 static BLOCKS: AtomicUsize = AtomicUsize::new(0);
 
 // SAFETY: all is done by the system's allocator.
-unsafe impl GlobalAlloc for Counting {
+unsafe impl GlobalAlloc for CountingAllocator {
     unsafe fn alloc(&self, layout: Layout) -> *mut u8 {
         BLOCKS.fetch_add(1, Ordering::Relaxed);
         // SAFETY: as the caller has it.
@@ -33,7 +33,7 @@ unsafe impl GlobalAlloc for Counting {
 }
 
 #[global_allocator]
-static COUNTING: Counting = Counting;
+static COUNTING: CountingAllocator = CountingAllocator;
 
 const ROUNDS: usize = 2_000;
 /// Packets that go before the other end answers.

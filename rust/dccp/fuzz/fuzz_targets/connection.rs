@@ -42,7 +42,7 @@ impl Input<'_> {
 
 /// The last frame of a client, of its server's end, and of a listener.
 #[derive(Default)]
-struct Last([Vec<u8>; 3]);
+struct LastFrames([Vec<u8>; 3]);
 
 fn addresses() -> (SocketAddr, SocketAddr) {
     (
@@ -103,7 +103,7 @@ fn call(end: &mut Connection, input: &mut Input, heard: &[u8], last: &mut Vec<u8
     }
 }
 
-fn call_listener(listener: &mut Listener, input: &mut Input, last: &mut Last, now: Instant) {
+fn call_listener(listener: &mut Listener, input: &mut Input, last: &mut LastFrames, now: Instant) {
     let peer = SocketAddr::from(([10, 0, 0, 1], 1 + u16::from(input.byte() % 3)));
     match input.byte() % 6 {
         0..=2 => drop(listener.handle_datagram(peer, 2_000, &input.datagram(&last.0[0]), now)),
@@ -119,7 +119,7 @@ fn call_listener(listener: &mut Listener, input: &mut Input, last: &mut Last, no
 }
 
 fuzz_target!(|data: &[u8]| {
-    let (mut input, mut last, mut now) = (Input(data), Last::default(), Instant::now());
+    let (mut input, mut last, mut now) = (Input(data), LastFrames::default(), Instant::now());
     let (here, there) = addresses();
     let SocketAddr::V4(own) = there else { return };
     let Ok(mut client) = Connection::new(&Config::client(here, there, 42, 1_000)) else {
