@@ -7,14 +7,15 @@ use std::mem;
 #[derive(Debug, Default)]
 pub(crate) struct Frames {
     bytes: Vec<u8>,
-    places: Vec<Place>,
+    extents: Vec<Extent>,
     /// How many of the first have gone out, and where the next begins.
     gone: usize,
     begin: usize,
 }
 
+/// What a frame takes of the buffer.
 #[derive(Clone, Copy, Debug)]
-struct Place {
+struct Extent {
     length: usize,
     is_answer: bool,
 }
@@ -24,7 +25,7 @@ const MOST_KEPT: usize = 1 << 17;
 
 impl Frames {
     pub(crate) fn len(&self) -> usize {
-        self.places.len() - self.gone
+        self.extents.len() - self.gone
     }
 
     pub(crate) fn is_empty(&self) -> bool {
@@ -32,11 +33,11 @@ impl Frames {
     }
 
     pub(crate) fn push(&mut self, frame: &[u8], is_answer: bool) {
-        if self.places.len() < 2 * self.gone {
+        if self.extents.len() < 2 * self.gone {
             self.close_up();
         }
         self.bytes.extend_from_slice(frame);
-        self.places.push(Place {
+        self.extents.push(Extent {
             length: frame.len(),
             is_answer,
         });
@@ -45,19 +46,19 @@ impl Frames {
     /// Removes what has gone out from the buffer.
     fn close_up(&mut self) {
         self.bytes.drain(..mem::take(&mut self.begin));
-        self.places.drain(..mem::take(&mut self.gone));
+        self.extents.drain(..mem::take(&mut self.gone));
     }
 
     /// The next frame, and whether it answers a packet.
     pub(crate) fn first(&self) -> Option<(&[u8], bool)> {
-        let place = self.places.get(self.gone)?;
-        let bytes = &self.bytes[self.begin..self.begin + place.length];
-        Some((bytes, place.is_answer))
+        let extent = self.extents.get(self.gone)?;
+        let bytes = &self.bytes[self.begin..self.begin + extent.length];
+        Some((bytes, extent.is_answer))
     }
 
     /// The first so many frames have gone out.
     pub(crate) fn remove(&mut self, count: usize) {
-        let gone = &self.places[self.gone..][..count.min(self.len())];
+        let gone = &self.extents[self.gone..][..count.min(self.len())];
         self.begin += gone.iter().map(|it| it.length).sum::<usize>();
         self.gone += gone.len();
         if self.is_empty() {
@@ -75,14 +76,14 @@ impl Frames {
 
     pub(crate) fn clear(&mut self) {
         (self.gone, self.begin) = (0, 0);
-        self.places.clear();
+        self.extents.clear();
         self.bytes.clear();
         self.bytes.shrink_to(MOST_KEPT);
     }
 
     /// Removes the answers for which this is false.
     pub(crate) fn retain_answers(&mut self, mut goes: impl FnMut() -> bool) {
-        if !self.places[self.gone..].iter().any(|it| it.is_answer) {
+        if !self.extents[self.gone..].iter().any(|it| it.is_answer) {
             return;
         }
         let all = mem::take(self);
@@ -105,7 +106,7 @@ impl Frames {
     pub(crate) fn runs(&self, most: usize, most_bytes: usize) -> Runs<'_> {
         Runs {
             bytes: &self.bytes[self.begin..],
-            places: &self.places[self.gone..],
+            extents: &self.extents[self.gone..],
             most,
             most_bytes,
         }
@@ -126,7 +127,7 @@ pub(crate) struct Run<'a> {
 #[derive(Clone)]
 pub(crate) struct Runs<'a> {
     bytes: &'a [u8],
-    places: &'a [Place],
+    extents: &'a [Extent],
     /// The most frames of the next ones.
     pub(crate) most: usize,
     most_bytes: usize,
@@ -136,20 +137,20 @@ impl<'a> Iterator for Runs<'a> {
     type Item = Run<'a>;
 
     fn next(&mut self) -> Option<Run<'a>> {
-        let (first, others) = self.places.split_first()?;
+        let (first, others) = self.extents.split_first()?;
         let (mut past, mut count) = (first.length, 1);
-        for place in others.iter().take(self.most.saturating_sub(1)) {
-            let is_other = first.is_answer || place.is_answer || first.length < place.length;
-            if is_other || self.most_bytes < past + place.length {
+        for extent in others.iter().take(self.most.saturating_sub(1)) {
+            let is_other = first.is_answer || extent.is_answer || first.length < extent.length;
+            if is_other || self.most_bytes < past + extent.length {
                 break;
             }
-            (past, count) = (past + place.length, count + 1);
-            if place.length < first.length {
+            (past, count) = (past + extent.length, count + 1);
+            if extent.length < first.length {
                 break;
             }
         }
         let (bytes, rest) = self.bytes.split_at(past);
-        (self.bytes, self.places) = (rest, &self.places[count..]);
+        (self.bytes, self.extents) = (rest, &self.extents[count..]);
         Some(Run {
             bytes,
             length: first.length,
@@ -179,8 +180,8 @@ mod tests {
             }
         }
         assert_eq!((next, frames.len()), (66, 34));
-        assert_eq!(frames.bytes.len(), 3 * frames.places.len());
-        assert!(frames.places.len() < 2 * 34 + 2);
+        assert_eq!(frames.bytes.len(), 3 * frames.extents.len());
+        assert!(frames.extents.len() < 2 * 34 + 2);
         let next = frames.runs(62, 100).next().unwrap();
         assert_eq!(
             (next.bytes, next.count, next.is_answer),
