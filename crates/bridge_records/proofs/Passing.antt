@@ -109,7 +109,7 @@ module _ {P V : Type 0} (work : RecordWork P V) (format : Format) where
   abbrev pieces : PieceWork P (RecordsState V)
   pieces = records_work work
 
-  -- where a classic capture stands
+  -- how far a classic capture is
   abbrev file : FilePlace → FileState
   file there = record { place = there; interfaces = []; nanos = None; skips = no_skips }
 

@@ -49,7 +49,7 @@ FitsPlace (place.Passing order total left) = (4 ≤ left) × (left % 4 ≡ 0)
 abbrev pub first_file : FileState
 first_file = record { place = place.Start; interfaces = []; nanos = None; skips = no_skips }
 
--- the same elsewhere
+-- the same state at another piece
 abbrev pub at : FileState → FilePlace → FileState
 at file there = record file { place = there }
 
@@ -90,7 +90,7 @@ is_between (place.Block order) = true
 is_between (place.Rest order head) = false
 is_between (place.Passing order total left) = false
 
--- no interface told whether fractions are nanoseconds, where blocks are read
+-- blocks are read, and no interface said whether fractions are nanoseconds
 abbrev pub untold_at : FilePlace → Option Bool → Bool
 untold_at (place.Block order) None = true
 untold_at (place.Block order) (Some nanos) = false
@@ -258,7 +258,7 @@ by_passing file order total left piece =
     else if not (ends_block order total piece) then Stops why.BadBlock
     else Goes None (at file (place.Block order))
 
--- what a piece comes to, by where it stands
+-- the result of a piece, by its place
 abbrev pub judged_at : FilePlace → FileState → List ℕ → Judgement Content FileState
 judged_at place.Start file piece = by_start file piece
 judged_at (place.Header format) file piece = by_header file format (record_header format.order piece)

@@ -39,8 +39,8 @@ pub record TakesPiece {S P V : Type 0} (job : PieceWork P V) (given count : ℕ)
   pub ahead : new.ahead ≡ record { pending = drop count old.ahead.pending; size = old.ahead.size }
   pub judges : JudgesPiece job old.state (job.judged old.state (take count old.ahead.pending)) old.text new.text new.state (Ok tt)
 
--- One turn: more of the input was read, or the next piece was judged and accepted, or the input is at its end or
--- refused, or the source failed, and else nothing changed.
+-- One turn: more of the input was read; or the next piece was judged and accepted; or the input is at its end or refused, or the source failed,
+-- and nothing else changed.
 abbrev pub TurnsPiece : {S P V : Type 0} → (S → Option (List ℕ)) → (S → ℕ) → PieceWork P V → ℕ → PieceState S V → PieceState S V → Result PieceTurn no_memory.NoMemory → Type 0
 TurnsPiece left faults job given old new (Ok turn.Read) = SameStanding left old new × (length old.ahead.pending < length new.ahead.pending)
 TurnsPiece left faults job given old new (Ok (turn.Taken used)) = TakesPiece job given used old new

@@ -9,7 +9,7 @@ use capture_reader::MOST_CAPTURE_BYTES;
 use dccp_io::{Failed, ReadAhead, Source};
 use seq_circle::NoMemory;
 
-/// What one turn came to.
+/// The result of one turn.
 pub(crate) enum PieceTurn {
     /// More of the input was read.
     Read,
