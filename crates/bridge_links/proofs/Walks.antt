@@ -8,7 +8,7 @@ use Rattle.bridge_links.specs.Labels.{ip_under_labels}
 use Rattle.bridge_links.specs.Logs.{part_size, payload_from}
 use Rattle.bridge_links.specs.Starts.{ip_at_either}
 
--- one that was not captured is not passed over
+-- one that was not captured is not skipped
 short-by : (left kind place to : ℕ) (bytes : List ℕ) (is : Bool) → nat_le (place + 8) (length bytes) ≡ false
     → (if is && nat_le (place + 8) (length bytes)
     then upper_from left (slice_index bytes place) (place + extension_size place bytes) (destination_after kind place to bytes) bytes
@@ -16,7 +16,7 @@ short-by : (left kind place to : ℕ) (bytes : List ℕ) (is : Bool) → nat_le 
 short-by left kind place to bytes true short = rw short refl
 short-by left kind place to bytes false short = refl
 
--- no header is passed over
+-- no header is skipped
 pub upper_none : (left kind place to : ℕ) (bytes : List ℕ) → left ≡ 0 → upper_from left kind place to bytes ≡ upper_at kind place to bytes
 unfolding upper_from
 upper_none zero kind place to bytes none = refl
@@ -69,7 +69,7 @@ payload_here (suc left) order place bytes some long here =
     let is : (ordered_number_at order (place + 2) 2 bytes == 9) ≡ true = ap (λ (n : ℕ). n == 9) here in
     rw (there, is) refl
 
--- it is sought after another part
+-- it is looked for after another part
 pub payload_step : (left : ℕ) (order : Order) (place : ℕ) (bytes : List ℕ) → 0 < left → place + 4 ≤ length bytes
     → (ordered_number_at order (place + 2) 2 bytes ≡ 9 → ⊥)
     → payload_from left order place bytes ≡ payload_from (left - 1) order (place + part_size order place bytes) bytes

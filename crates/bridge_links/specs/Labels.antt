@@ -2,7 +2,7 @@
 use Rattle.std.specs.Prelude.{ℕ, zero, suc, ◌+◌, ◌%◌, ◌==◌, nat_lt, if◌then◌else◌, List, length, slice_index, Option, None}
 use Rattle.bridge_links.specs.Starts.{ip_at_either}
 
--- IP after this many labels at most, the first at a place; its version tells which IP it is
+-- IP after this many labels at most, the first at a place; its version says which IP it is
 unfoldable pub ip_under_labels : ℕ → ℕ → List ℕ → Option ℕ
 ip_under_labels zero place bytes = None
 ip_under_labels (suc left) place bytes =
