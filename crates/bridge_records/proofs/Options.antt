@@ -35,7 +35,7 @@ cut order code place (byte ∷ bytes) some =
     ∙ ap (λ (n : ℕ). option_from order code n 0 (drop (size - 1) bytes)) further
     ∙ ap (λ (rest : List ℕ). option_from order code (place + size) 0 rest) following)
 
--- what is sought from a place on
+-- what is looked for from a place on
 abbrev pub sought : Order → ℕ → ℕ → List ℕ → Option ℕ
 sought order code place options = option_from order code place 0 (drop place options)
 
@@ -84,7 +84,7 @@ module _ (order : Order) (code place : ℕ) (options : List ℕ) where
           let is : (ordered_number_at order 0 2 (drop place options) == code) ≡ true = ap (λ (n : ℕ). n == code) (code-here order place options) ∙ here in
           cut order code place (drop place options) some ∙ rw (long, not_last, is) refl
 
-      -- it is sought after another
+      -- it is looked for after another
       pub sought_on : (ordered_number_at order place 2 options == code) ≡ false
           → sought order code place options ≡ sought order code (place + (4 + (ordered_number_at order (place + 2) 2 options + 3) / 4 * 4)) options
       sought_on other =

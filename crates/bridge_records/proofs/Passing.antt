@@ -57,7 +57,7 @@ module _ {P V : Type 0} (work : RecordWork P V) where
   goes-over-alike first begun input result left before after same goes =
       subst (λ (state : V). GoesOverRecords work state input result left before after) same goes
 
-  -- the pieces of a capture were gone through, and so its records
+  -- the pieces of a capture were read, and so were its records
   pub goes-over : (first : V) (input : List ℕ) (end : JobEnd) (fault : Option PieceFault) (last : RecordsState V) (refusal : Option CaptureRefusal)
       (skips : Skips) (left before after : Option (List ℕ))
       → GoesThroughPieces (records_work work) (first_reading first) input (record { end = end; fault = fault }) last left before after
@@ -71,7 +71,7 @@ module _ {P V : Type 0} (work : RecordWork P V) where
     skipped = λ answered. skipped ∙ ap (λ (s : RecordsState V). s.file.skips) (goes.last_is answered);
   }
 
--- a number in the front of bytes
+-- a number at the beginning of bytes
 big-front : (count : ℕ) (front rest : List ℕ) → count ≤ length front → big_from 0 count (front ++ rest) ≡ big_from 0 count front
 big-front count front rest fits = sym (big_from-take 0 count (length front) (front ++ rest) (omega (arith, fits)))
     ∙ ap (big_from 0 count) (take_at front rest (length front) refl)
@@ -113,14 +113,14 @@ module _ {P V : Type 0} (work : RecordWork P V) (format : Format) where
   abbrev file : FilePlace → FileState
   file there = record { place = there; interfaces = []; nanos = None; skips = no_skips }
 
-  -- before a header, and before the bytes of a record, after so many
+  -- before a header, and before the bytes of a record, after this many
   abbrev here : ℕ → V → RecordsState V
   here n job = reading_at (file (place.Header format)) format.nanos n job
 
   abbrev inside : RecordHeader → ℕ → V → RecordsState V
   inside head n job = reading_at (file (place.Body format head)) format.nanos n job
 
-  -- a record after so many, with its bytes
+  -- a record after this many, with its bytes
   abbrev entry-after : ℕ → RecordHeader → List ℕ → RecordParts
   entry-after n head bytes = numbered_entry (one_more n) format.nanos format.link head bytes
 

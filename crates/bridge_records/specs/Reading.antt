@@ -66,7 +66,7 @@ long_noted file size = record file { skips = record { links = file.skips.links; 
 abbrev pub block_noted : FileState → ℕ → FileState
 block_noted file kind = record file { skips = record { links = file.skips.links; long = file.skips.long; blocks = tally_with file.skips.blocks kind } }
 
--- the same with a block that is passed over: a packet's, or another
+-- the same with a block that is skipped piece by piece: a packet's, or another
 abbrev pub passing_noted : FileState → BlockHead → FileState
 passing_noted file head = if is_read_block head.kind then long_noted file head.total else block_noted file head.kind
 
@@ -162,7 +162,7 @@ by_block_length file order head None =
     if not (head.total == 12) then Goes None (at file (place.Rest order head))
     else by_empty file order head
 
--- the first bytes of a block: a long one that is not needed is passed over
+-- the first bytes of a block: a long one that is not needed is skipped
 abbrev pub by_block_head : FileState → Order → BlockHead → Judgement Content FileState
 by_block_head file order head =
     if is_passed_over head then Goes None (at (passing_noted file head) (place.Passing order head.total (head.total - 12)))
@@ -251,7 +251,7 @@ by_rest file order head piece =
     if not (ends_block order head.total piece) then Stops why.BadBlock
     else by_kind file order head piece
 
--- a piece of a block that is passed over: the next, or the last, in which the block ends
+-- a piece of a block that is skipped: the next, or the last, in which the block ends
 abbrev pub by_passing : FileState → Order → ℕ → ℕ → List ℕ → Judgement Content FileState
 by_passing file order total left piece =
     if nat_lt 524288 left then Goes None (at file (place.Passing order total (left - 524288)))
