@@ -39,7 +39,7 @@ pub enum CaptureFault {
     NoMemory,
     /// A byte after the first 4,294,967,296 is needed, even if the input ends just there. An input that ends there
     /// between two records is whole.
-    #[error("the capture goes on behind its first 4294967296 bytes")]
+    #[error("the capture goes on after its first 4294967296 bytes")]
     TooLarge,
 }
 

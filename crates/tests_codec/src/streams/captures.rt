@@ -75,7 +75,7 @@ const TEXTS: [(CaptureFault, &str); 8] = [
     (CaptureFault::NoMemory, "no memory is left"),
     (
         CaptureFault::TooLarge,
-        "the capture goes on behind its first 4294967296 bytes",
+        "the capture goes on after its first 4294967296 bytes",
     ),
 ];
 
