@@ -5,7 +5,7 @@
 //!
 //! Each way is taken nine times by turns, and its best time counts. A line each says how many packets a second came, the ratio to plain
 //! datagrams, and on Linux how much of a processor a packet took, both ends together. Then what 10,000 packets a second take of one, in bursts of
-//! 100: both ends together, which are in one process here, and then each, which is what a program at one end pays for its packets.
+//! 100: at each end, which is what a program pays that has one, and at both together, which are in one process here. The same of plain datagrams.
 
 use dccp::MOST_DATA_BYTES;
 use dccp::net::{Listener, Options, Socket};
@@ -24,8 +24,9 @@ const ROUNDS: u32 = 9;
 /// As many plain datagrams are in flight, and every second one is answered: as an Ack Ratio of 2 has it.
 const IN_FLIGHT: u32 = 128;
 const PATIENCE: Duration = Duration::from_secs(1);
-/// How long 10,000 packets a second are sent.
+/// How long 10,000 packets a second are sent, and how many of them at once.
 const SECONDS: u32 = 10;
+const BURST: usize = 100;
 /// The threads of the receiver: the library's, and the one that reads.
 const LISTENER: &str = "dccp listener";
 const READER: &str = "reader";
@@ -51,7 +52,8 @@ fn answer_every_second(socket: &UdpSocket) -> io::Result<u32> {
     Ok(came)
 }
 
-fn plain() -> Answer<f64> {
+/// Two sockets of the system that are connected to each other.
+fn plain_pair() -> io::Result<(UdpSocket, UdpSocket)> {
     let (here, there) = (
         UdpSocket::bind("127.0.0.1:0")?,
         UdpSocket::bind("127.0.0.1:0")?,
@@ -60,6 +62,11 @@ fn plain() -> Answer<f64> {
     there.connect(here.local_addr()?)?;
     here.set_read_timeout(Some(PATIENCE))?;
     there.set_read_timeout(Some(PATIENCE))?;
+    Ok((here, there))
+}
+
+fn plain() -> Answer<f64> {
+    let (here, there) = plain_pair()?;
     let begun = Instant::now();
     let receiver = thread::spawn(move || answer_every_second(&there));
     let (packet, mut room, mut answered) = ([7; MOST_DATA_BYTES], [0; 16], 0);
@@ -154,35 +161,62 @@ fn threads() -> HashMap<OsString, (String, f64)> {
     each.collect()
 }
 
-/// The shares of a processor that 10,000 packets a second take: at the sender, and at the receiver.
-fn at_ten_thousand() -> Answer<Option<[f64; 2]>> {
-    let (client, server) = pair()?;
-    let reader = thread::Builder::new().name(READER.into());
-    let receiver = reader.spawn(move || {
-        let mut found = Vec::new();
-        while server.recv_batch(&mut found).is_ok() {}
-    })?;
+/// What the threads of this process take of a processor while a hundred packets are sent each ten milliseconds: those of the sender, and those of
+/// the receiver. These are the packets of so many seconds, even where the machine was late.
+fn shares_of(mut burst: impl FnMut() -> Answer<()>) -> Answer<[f64; 2]> {
     let (begun, before) = (Instant::now(), threads());
-    let packets = [[7; MOST_DATA_BYTES]; 100];
     for turn in 1..=100 * SECONDS {
-        let mut sent = 0;
-        while sent < packets.len() {
-            sent += client.send_batch(&packets[sent..])?.count;
-        }
-        thread::sleep(
-            (begun + Duration::from_millis(10) * turn).saturating_duration_since(Instant::now()),
-        );
+        burst()?;
+        let next = begun + Duration::from_millis(10) * turn;
+        thread::sleep(next.saturating_duration_since(Instant::now()));
     }
     let mut shares = [0.0; 2];
     for (number, (name, after)) in threads() {
         let began = before.get(&number).map_or(0.0, |it| it.1);
         let is_receiver = [LISTENER, READER].contains(&name.as_str());
-        // These are the packets of so many seconds, even where the machine was late.
-        shares[usize::from(is_receiver)] += (after - began) / f64::from(SECONDS);
+        shares[usize::from(is_receiver)] += 100.0 * (after - began) / f64::from(SECONDS);
     }
+    Ok(shares)
+}
+
+fn reader() -> thread::Builder {
+    thread::Builder::new().name(READER.into())
+}
+
+fn plain_at_ten_thousand() -> Answer<[f64; 2]> {
+    let (here, there) = plain_pair()?;
+    let receiver = reader().spawn(move || answer_every_second(&there))?;
+    here.set_nonblocking(true)?;
+    let (packet, mut room) = ([7; MOST_DATA_BYTES], [0; 16]);
+    let shares = shares_of(|| {
+        for _ in 0..BURST {
+            here.send(&packet)?;
+        }
+        while here.recv(&mut room).is_ok() {}
+        Ok(())
+    })?;
+    here.send(&[0])?;
+    receiver.join().map_err(|_| "the receiver panicked")??;
+    Ok(shares)
+}
+
+fn at_ten_thousand() -> Answer<[f64; 2]> {
+    let (client, server) = pair()?;
+    let receiver = reader().spawn(move || {
+        let mut found = Vec::new();
+        while server.recv_batch(&mut found).is_ok() {}
+    })?;
+    let packets = [[7; MOST_DATA_BYTES]; BURST];
+    let shares = shares_of(|| {
+        let mut sent = 0;
+        while sent < packets.len() {
+            sent += client.send_batch(&packets[sent..])?.count;
+        }
+        Ok(())
+    })?;
     client.close(Duration::from_secs(10))?;
     receiver.join().map_err(|_| "the receiver panicked")?;
-    Ok(processor().map(|_| shares))
+    Ok(shares)
 }
 
 fn main() -> Answer<()> {
@@ -207,10 +241,20 @@ fn main() -> Answer<()> {
             best[place]
         );
     }
-    if let Some([sender, receiver]) = at_ten_thousand()?.map(|all| all.map(|it| 100.0 * it)) {
+    if processor().is_none() {
+        return Ok(());
+    }
+    for (name, way) in [
+        (
+            "plain datagrams",
+            plain_at_ten_thousand as fn() -> Answer<[f64; 2]>,
+        ),
+        ("packets", at_ten_thousand),
+    ] {
+        let [sender, receiver] = way()?;
+        let both = sender + receiver;
         println!(
-            "10,000 packets a second: {:.1} % of a processor, the sender {sender:.1} and the receiver {receiver:.1}",
-            sender + receiver
+            "10,000 {name} a second: the sender {sender:.1} % of a processor, the receiver {receiver:.1}, both together {both:.1}"
         );
     }
     Ok(())
