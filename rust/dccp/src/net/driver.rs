@@ -27,8 +27,8 @@ const SHORTEST_STAY: Duration = Duration::from_secs(1);
 /// How long one key of Init Cookies is used (own).
 const KEY_LIFETIME: Duration = Duration::from_secs(3_600);
 
-/// How many readers may wait to be woken although more datagrams have come.
-const MOST_TO_WAKE: usize = 64;
+/// How often it looks for more datagrams before frames go out and readers are woken.
+const MOST_LOOKS: u32 = 16;
 
 /// What the driver of a listener needs for peers without a connection.
 pub(super) struct Reception {
@@ -137,7 +137,7 @@ impl Driver {
     }
 
     fn run(mut self) {
-        let mut batch = Batch::new();
+        let (mut batch, mut looks) = (Batch::new(), 0);
         while !self.is_over() {
             let heard = self.receive(&mut batch);
             if let Err(fault) = heard {
@@ -146,9 +146,13 @@ impl Driver {
             }
             self.hear(&batch);
             self.fire();
-            self.hand_over();
-            if batch.heard.is_empty() || !CAN_LOOK || MOST_TO_WAKE <= self.to_wake.len() {
+            // If a reader is to be woken, there is another look for datagrams first.
+            looks += 1;
+            let is_last = self.to_wake.is_empty() || MOST_LOOKS <= looks;
+            if batch.heard.is_empty() || !CAN_LOOK || is_last {
+                self.hand_over();
                 self.to_wake.drain(..).for_each(|it| it.wake_readers());
+                looks = 0;
             }
             if !batch.heard.is_empty() {
                 // Senders and readers run first: then more is heard with one call.
@@ -374,9 +378,15 @@ impl Driver {
 
     fn tell<'a>(&mut self, line: &Arc<Line>, datagrams: impl Iterator<Item = &'a [u8]>) {
         if line.hear(datagrams) {
-            self.to_wake.push(Arc::clone(line));
+            self.wake_later(line);
         }
         self.announce(line);
+    }
+
+    fn wake_later(&mut self, line: &Arc<Line>) {
+        if !self.to_wake.iter().any(|it| Arc::ptr_eq(it, line)) {
+            self.to_wake.push(Arc::clone(line));
+        }
     }
 
     /// Hands a connection that has just opened to the listener's owner.
@@ -394,10 +404,13 @@ impl Driver {
     }
 
     /// Hands over the frames that other threads left to this one.
-    fn hand_over(&self) {
+    fn hand_over(&mut self) {
         for peer in self.agenda.take_left() {
-            if let Some(line) = self.lines.get(&peer) {
-                line.hand_over_left();
+            let Some(line) = self.lines.get(&peer).map(Arc::clone) else {
+                continue;
+            };
+            if line.hand_over_left() {
+                self.wake_later(&line);
             }
         }
     }

@@ -439,28 +439,35 @@ impl Line {
     fn finish_sending(&self, mut state: MutexGuard<'_, State>, now: Instant) {
         let last = state.sent.replace(now);
         let is_quick = CAN_LOOK && last.is_some_and(|last| now < last + QUICK);
-        if !is_quick || MOST_LEFT <= state.connection.frames() {
-            return self.finish(state, now);
-        }
-        let wakes = self.attend(&mut state, now);
-        let were_left = mem::replace(&mut state.are_left, true);
-        drop(state);
-        if wakes.readers {
+        if !is_quick {
+            self.finish(state, now);
+        } else if self.leave(state, now) {
             self.wake_readers();
-        }
-        if wakes.writers {
-            self.writable.notify_all();
-        }
-        if !were_left {
-            self.agenda.leave(self.peer);
         }
     }
 
-    /// Hands over the frames that were left to the driver.
-    pub(super) fn hand_over_left(&self) {
+    /// Leaves frames to the driver, except if they are many, and returns whether readers are to be woken.
+    fn leave(&self, mut state: MutexGuard<'_, State>, now: Instant) -> bool {
+        if !CAN_LOOK || MOST_LEFT <= state.connection.frames() {
+            return self.finish_quietly(state, now);
+        }
+        let wakes = self.attend(&mut state, now);
+        let are_new = state.connection.frames() != 0 && !mem::replace(&mut state.are_left, true);
+        drop(state);
+        if wakes.writers {
+            self.writable.notify_all();
+        }
+        if are_new {
+            self.agenda.leave(self.peer);
+        }
+        wakes.readers
+    }
+
+    /// Hands over the frames that were left to the driver, and returns whether readers are to be woken.
+    pub(super) fn hand_over_left(&self) -> bool {
         let (mut state, now) = (self.state(), Instant::now());
         state.are_left = false;
-        self.finish(state, now);
+        self.finish_quietly(state, now)
     }
 
     /// Wakes those that wait for data.
@@ -652,12 +659,13 @@ impl Line {
         Ok(end)
     }
 
-    /// Hears datagrams, and returns whether readers are to be woken, which may wait until there are no more datagrams.
+    /// Hears datagrams. What answers them is left to the driver, until there are no more. Returns whether readers are to be woken, which may
+    /// wait as long.
     pub(super) fn hear<'a>(&self, datagrams: impl Iterator<Item = &'a [u8]>) -> bool {
         let (mut state, now) = (self.state(), Instant::now());
         state.hear(datagrams, now);
         let is_much = MUCH <= state.waiting();
-        let wakes = self.finish_quietly(state, now);
+        let wakes = self.leave(state, now);
         if wakes && is_much {
             self.wake_readers();
         }
