@@ -3,7 +3,7 @@
 //! back for as long. It prints what was dropped, in flight and read, and ends with status 1 if the first sender loses more packets than were in
 //! flight when the buffer filled, each time that it fills, or if the application reads less than nine tenths of what it could.
 
-use dccp::{Accepted, Config, Connection, Event, PathRule, Phase};
+use dccp::{AcceptOutcome, Config, Connection, Event, PathRule, Phase};
 use std::collections::VecDeque;
 use std::error::Error;
 use std::net::{SocketAddr, UdpSocket};
@@ -127,7 +127,7 @@ impl Run {
         match &mut self.reader {
             Some(reader) => reader.handle_datagram(datagram, now),
             None => {
-                if let Accepted::Connection(reader) = Connection::accept(&self.config, datagram, now)? {
+                if let AcceptOutcome::Connection(reader) = Connection::accept(&self.config, datagram, now)? {
                     self.reader = Some(*reader);
                 }
             }

@@ -3,7 +3,7 @@
 use crate::end::{End, Flow, LoneEnd};
 use crate::owner::Owner;
 use crate::rules::OFFERED_WIDTH;
-use dccp::{Accepted, Config, Connection, Feature, Place};
+use dccp::{AcceptOutcome, Config, Connection, Feature, Place};
 use std::net::SocketAddrV4;
 use std::time::Instant;
 
@@ -98,11 +98,11 @@ pub fn server(
     let config = Config::server(there.into(), here.into(), SERVICE, first);
     let config = configured(config, manner, wishes);
     match Connection::accept(&config, datagram, now).expect("the wishes are permitted") {
-        Accepted::Connection(connection) => StrangerResult::End(match manner {
+        AcceptOutcome::Connection(connection) => StrangerResult::End(match manner {
             Manner::Classic | Manner::Usual => Box::new(LoneEnd::new(*connection)),
             Manner::Reference => Box::new(Owner::accepted(*connection, now)),
         }),
-        Accepted::Answer(answer) => StrangerResult::Answer(answer.bytes),
+        AcceptOutcome::Answer(answer) => StrangerResult::Answer(answer.bytes),
         // It is no Request, or the crate has a further variant.
         _ => StrangerResult::Nothing,
     }

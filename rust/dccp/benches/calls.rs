@@ -6,7 +6,7 @@
 //! A line for each says how many nanoseconds of a processor a packet took at both ends, with its half of an Ack, the least of nine measures,
 //! and how many blocks of memory.
 
-use dccp::{Accepted, Config, Connection, MOST_FRAME_BYTES, Phase};
+use dccp::{AcceptOutcome, Config, Connection, MOST_FRAME_BYTES, Phase};
 use std::alloc::{GlobalAlloc, Layout, System};
 use std::error::Error;
 use std::fs;
@@ -52,7 +52,7 @@ fn pair(now: Instant) -> Result<(Connection, Connection), Box<dyn Error>> {
     one.open(now)?;
     let request = one.poll_transmit().ok_or("a Request")?;
     let config = Config::server(there, here, 42, 2_000);
-    let Accepted::Connection(other) = Connection::accept(&config, &request.bytes, now)? else {
+    let AcceptOutcome::Connection(other) = Connection::accept(&config, &request.bytes, now)? else {
         return Err("a Request is accepted".into());
     };
     let mut other = *other;

@@ -5,7 +5,7 @@
 //! A line each says how many packets of 1,024 bytes came of 10,240, in how many seconds, and how many megabytes a second that is.
 //! What is lost stays lost. The plain datagrams are as many in flight as a connection may have, and each is answered.
 
-use dccp::{Accepted, Config, Connection, Event, Feature, MOST_FRAME_BYTES, Phase, Place};
+use dccp::{AcceptOutcome, Config, Connection, Event, Feature, MOST_FRAME_BYTES, Phase, Place};
 use std::error::Error;
 use std::fs::File;
 use std::io::{self, ErrorKind, Read};
@@ -75,7 +75,7 @@ fn serve(socket: UdpSocket, last: Instant) -> Answer<u32> {
     let (length, peer) = socket.recv_from(&mut room)?;
     socket.connect(peer)?;
     let config = Config::server(socket.local_addr()?, peer, SERVICE, first_number()?);
-    let Accepted::Connection(mut connection) =
+    let AcceptOutcome::Connection(mut connection) =
         Connection::accept(&config, &room[..length], Instant::now())?
     else {
         return Err("the first datagram is a Request".into());

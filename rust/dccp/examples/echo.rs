@@ -39,11 +39,11 @@ fn receive(
 }
 
 /// The data of each peer that wait for room in its window.
-type Waiting = BTreeMap<SocketAddr, VecDeque<Vec<u8>>>;
+type WaitingData = BTreeMap<SocketAddr, VecDeque<Vec<u8>>>;
 
 /// Takes the events of the server: who has come, who has gone, and what data came. A peer that has only asked may be forged, so it counts once
 /// it has opened its connection.
-fn take_news(server: &mut Listener, waiting: &mut Waiting) {
+fn take_news(server: &mut Listener, waiting: &mut WaitingData) {
     while server.poll_accept().is_some() {}
     while let Some((address, change)) = server.poll_change() {
         match change {
@@ -61,7 +61,7 @@ fn take_news(server: &mut Listener, waiting: &mut Waiting) {
 }
 
 /// Sends back what the window of each peer has room for.
-fn send_back(server: &mut Listener, waiting: &mut Waiting, now: Instant) {
+fn send_back(server: &mut Listener, waiting: &mut WaitingData, now: Instant) {
     for (address, queue) in waiting {
         while let Some(data) = queue.front() {
             match server.send(*address, data, now) {
@@ -104,7 +104,7 @@ fn main() -> Result<(), Box<dyn Error>> {
     // First numbers that nobody can guess are drawn from a key (RFC 4340, section 7.2).
     server.set_key(drawn()?);
     let mut rekeyed = None;
-    let (mut room, mut waiting) = ([0; MOST_FRAME_BYTES + 1], Waiting::new());
+    let (mut room, mut waiting) = ([0; MOST_FRAME_BYTES + 1], WaitingData::new());
     loop {
         // Where strangers fill the table by Requests, these are answered by Init Cookies, whose key is another each hour.
         if rekeyed.is_none_or(|since: Instant| since.elapsed() >= HOUR) {

@@ -8,7 +8,7 @@
 //! end and of its peer, and the code with which the connection ended. A client that says `translated` speaks to such an `echo`.
 
 use dccp::{
-    Accepted, Config, Connection, Event, Feature, MOST_FRAME_BYTES, Phase, Place, Transmit,
+    AcceptOutcome, Config, Connection, Event, Feature, MOST_FRAME_BYTES, Phase, Place, Transmit,
 };
 use std::env;
 use std::error::Error;
@@ -108,11 +108,11 @@ fn serve(port: u16) -> Result<(Connection, Wire), Box<dyn Error>> {
         let (length, peer) = wire.socket.recv_from(&mut room)?;
         let config = Config::server(own, peer, SERVICE, first_number()?);
         match Connection::accept(&config, &room[..length], Instant::now())? {
-            Accepted::Connection(connection) => {
+            AcceptOutcome::Connection(connection) => {
                 wire.socket.connect(peer)?;
                 return Ok((*connection, wire));
             }
-            Accepted::Answer(answer) if wire.may_answer() => {
+            AcceptOutcome::Answer(answer) if wire.may_answer() => {
                 // A frame that the socket does not take is lost.
                 let _ = wire.socket.send_to(&answer.bytes, peer);
             }

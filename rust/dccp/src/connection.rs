@@ -94,7 +94,7 @@ pub enum Event {
 /// A server's answer to a datagram from a peer that it does not know.
 #[derive(Debug)]
 #[non_exhaustive]
-pub enum Accepted {
+pub enum AcceptOutcome {
     /// It is a Request: this is the connection, and its answer waits in [`Connection::poll_transmit`]. If its options have a fault, the
     /// connection has already ended, and its phase is [`Phase::Closed`].
     Connection(Box<Connection>),
@@ -128,7 +128,7 @@ pub struct Connection {
     /// The end counts its time in milliseconds from the first call that has one.
     begun: Option<Instant>,
     due: Option<Instant>,
-    outgoing: Outgoing,
+    outgoing: OutgoingFrames,
     events: VecDeque<Event>,
     has_ended: bool,
     /// Of a server's end.
@@ -137,7 +137,7 @@ pub struct Connection {
 
 /// The frames that wait for the peer, the packets of data in flight, and the counts.
 #[derive(Debug, Default)]
-struct Outgoing {
+struct OutgoingFrames {
     frames: Frames,
     in_flight: InFlight,
     counts: Statistics,
@@ -171,7 +171,7 @@ impl Connection {
             view,
             begun: None,
             due: None,
-            outgoing: Outgoing::default(),
+            outgoing: OutgoingFrames::default(),
             events: VecDeque::new(),
             has_ended: false,
             last_sync: is_server.then(LastSync::default),
@@ -182,29 +182,33 @@ impl Connection {
     /// of this configuration out of [`Phase::Listen`].
     ///
     /// ```
-    /// use dccp::{Accepted, Config, Connection};
+    /// use dccp::{AcceptOutcome, Config, Connection};
     /// use std::time::Instant;
     ///
     /// let (here, there) = ("192.0.2.1:40000".parse()?, "192.0.2.2:5001".parse()?);
     /// let config = Config::server(there, here, 42, 2_000);
-    /// assert!(matches!(Connection::accept(&config, b"no packet", Instant::now())?, Accepted::Nothing));
+    /// assert!(matches!(Connection::accept(&config, b"no packet", Instant::now())?, AcceptOutcome::Nothing));
     ///
     /// let mut client = Connection::new(&Config::client(here, there, 42, 1_000))?;
     /// client.open(Instant::now())?;
     /// let request = client.poll_transmit().ok_or("a Request")?;
-    /// assert!(matches!(Connection::accept(&config, &request.bytes, Instant::now())?, Accepted::Connection(_)));
+    /// assert!(matches!(Connection::accept(&config, &request.bytes, Instant::now())?, AcceptOutcome::Connection(_)));
     /// # Ok::<(), Box<dyn std::error::Error>>(())
     /// ```
-    pub fn accept(config: &Config, datagram: &[u8], now: Instant) -> Result<Accepted, MakeError> {
+    pub fn accept(
+        config: &Config,
+        datagram: &[u8],
+        now: Instant,
+    ) -> Result<AcceptOutcome, MakeError> {
         let mut end = End::none();
         let (status, frame, told) = end.accept(config.settings(), config.wishes(), datagram, 0);
-        let mut outgoing = Outgoing::default();
+        let mut outgoing = OutgoingFrames::default();
         queue(&mut outgoing, (status, frame), is_answer(&told));
         match status {
             sys::TOO_LONG | sys::NO_CONNECTION => Ok(outgoing
                 .frames
                 .take_first()
-                .map_or(Accepted::Nothing, Accepted::Answer)),
+                .map_or(AcceptOutcome::Nothing, AcceptOutcome::Answer)),
             _ => {
                 MakeError::answer(status)?;
                 let mut connection = Connection::of(end, true);
@@ -212,7 +216,7 @@ impl Connection {
                 // The data of a Request are not delivered.
                 let _ = connection.hear(&told, datagram, Phase::Listen);
                 connection.called(now);
-                Ok(Accepted::Connection(Box::new(connection)))
+                Ok(AcceptOutcome::Connection(Box::new(connection)))
             }
         }
     }
@@ -275,12 +279,12 @@ impl Connection {
         }
         let request = request.to_vec();
         let config = config.clone().first_number(end.number());
-        let Accepted::Connection(mut connection) = Connection::accept(&config, &request, now)?
+        let AcceptOutcome::Connection(mut connection) = Connection::accept(&config, &request, now)?
         else {
             return Ok(None);
         };
         // Its Response went out when the cookie was given.
-        connection.outgoing = Outgoing::default();
+        connection.outgoing = OutgoingFrames::default();
         connection.handle_datagram(datagram, now);
         Ok(Some(connection))
     }
@@ -530,7 +534,7 @@ impl Connection {
     /// Takes the data of the packet that has waited longest. None if none wait, as always without [`Config::holding`].
     ///
     /// ```
-    /// use dccp::{Accepted, Config, Connection, Event};
+    /// use dccp::{AcceptOutcome, Config, Connection, Event};
     /// use std::time::Instant;
     ///
     /// let (here, there) = ("192.0.2.1:40000".parse()?, "192.0.2.2:5001".parse()?);
@@ -539,7 +543,7 @@ impl Connection {
     /// client.open(now)?;
     /// let request = client.poll_transmit().ok_or("a Request")?;
     /// let config = Config::server(there, here, 42, 2_000);
-    /// let Accepted::Connection(mut server) = Connection::accept(&config, &request.bytes, now)? else {
+    /// let AcceptOutcome::Connection(mut server) = Connection::accept(&config, &request.bytes, now)? else {
     ///     return Err("a Request is accepted".into());
     /// };
     /// let exchange = |client: &mut Connection, server: &mut Connection| loop {
@@ -830,7 +834,7 @@ fn is_answer(told: &sys::Told) -> bool {
 }
 
 /// Keeps the frame that a call has left, if any, and returns the call's status.
-fn queue(outgoing: &mut Outgoing, (status, frame): (u32, &[u8]), is_answer: bool) -> u32 {
+fn queue(outgoing: &mut OutgoingFrames, (status, frame): (u32, &[u8]), is_answer: bool) -> u32 {
     if !frame.is_empty() {
         outgoing.counts.sent.count(frame);
         outgoing.frames.push(frame, is_answer);

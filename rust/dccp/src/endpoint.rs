@@ -1,6 +1,6 @@
 //! A server's connections, one for each peer.
 
-use crate::{Accepted, Config, Connection, Event, MakeError, Phase, Transmit};
+use crate::{AcceptOutcome, Config, Connection, Event, MakeError, Phase, Transmit};
 use std::collections::{BTreeMap, VecDeque};
 use std::fmt;
 use std::iter;
@@ -99,17 +99,19 @@ impl Endpoint {
             connection.handle_datagram(datagram, now);
         } else if self.connections.len() < self.most && is_request(datagram) {
             match Connection::accept(&(self.configure)(peer), datagram, now)? {
-                Accepted::Connection(mut connection) if connection.phase() == Phase::Closed => {
+                AcceptOutcome::Connection(mut connection)
+                    if connection.phase() == Phase::Closed =>
+                {
                     // It has ended before the owner knew of it: its Reset goes out, and the owner gets no event.
                     let frames = iter::from_fn(|| connection.poll_transmit());
                     self.frames.extend(frames.map(|frame| (peer, frame)));
                 }
-                Accepted::Connection(connection) => {
+                AcceptOutcome::Connection(connection) => {
                     self.connections.insert(peer, *connection);
                     self.accepted.push_back(peer);
                 }
-                Accepted::Answer(frame) => self.frames.push_back((peer, frame)),
-                Accepted::Nothing => {}
+                AcceptOutcome::Answer(frame) => self.frames.push_back((peer, frame)),
+                AcceptOutcome::Nothing => {}
             }
         } else {
             // No end is made for it: any other packet is answered as an end would answer it.

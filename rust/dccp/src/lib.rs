@@ -5,7 +5,7 @@
 //! The library is proved, and this crate is not: `docs/LIBRARY.md` of the repository says more.
 //!
 //! ```
-//! use dccp::{Accepted, Config, Connection, Event};
+//! use dccp::{AcceptOutcome, Config, Connection, Event};
 //! use std::time::Instant;
 //!
 //! let (here, there) = ("192.0.2.1:40000".parse()?, "192.0.2.2:5001".parse()?);
@@ -16,7 +16,7 @@
 //! // A server makes a connection from the Request. A real one draws the first number.
 //! let request = client.poll_transmit().ok_or("a Request")?;
 //! let config = Config::server(there, here, 42, 2_000);
-//! let Accepted::Connection(mut server) = Connection::accept(&config, &request.bytes, now)? else {
+//! let AcceptOutcome::Connection(mut server) = Connection::accept(&config, &request.bytes, now)? else {
 //!     return Err("a Request is accepted".into());
 //! };
 //!
@@ -60,7 +60,7 @@ mod statistics;
 use dccp_sys as sys;
 
 pub use crate::config::{Config, PathRule};
-pub use crate::connection::{Accepted, Connection, Event, RoundTrip, Segments, Transmit};
+pub use crate::connection::{AcceptOutcome, Connection, Event, RoundTrip, Segments, Transmit};
 pub use crate::cookies::CookieKeys;
 pub use crate::endpoint::Endpoint;
 pub use crate::listener::{Cause, Change, Listener, Way};

@@ -2,7 +2,8 @@
 
 use dccp::net::{End, Error, Listener, Options, Sender, Socket};
 use dccp::{
-    Accepted, Config, Connection, DropCode, Event, Fate, Feature, MOST_DATA_BYTES, Phase, Place,
+    AcceptOutcome, Config, Connection, DropCode, Event, Fate, Feature, MOST_DATA_BYTES, Phase,
+    Place,
 };
 use std::net::{SocketAddr, UdpSocket};
 use std::sync::Arc;
@@ -487,7 +488,7 @@ fn a_server_that_was_started_again_has_forgotten() -> Outcome {
             let (length, peer) = udp.recv_from(&mut room).unwrap();
             let config = Config::server(address, peer, SERVICE, 2_000);
             let accepted = Connection::accept(&config, &room[..length], Instant::now());
-            let Ok(Accepted::Connection(mut connection)) = accepted else {
+            let Ok(AcceptOutcome::Connection(mut connection)) = accepted else {
                 panic!("{accepted:?}");
             };
             while let Some(frame) = connection.poll_transmit() {

@@ -1,7 +1,7 @@
 //! Connections in one process, whose time is counted on and whose frames are lost by number.
 
 use dccp::{
-    Accepted, ArriveError, Cause, Change, Config, Connection, DropCode, Endpoint, Event, Fate,
+    AcceptOutcome, ArriveError, Cause, Change, Config, Connection, DropCode, Endpoint, Event, Fate,
     Feature, FlowError, ListenError, Listener, MOST_FRAME_BYTES, Phase, Place, SendError,
     StopError, Timer, Transmit,
 };
@@ -44,7 +44,8 @@ fn open_pair_with(server: &Config) -> Result<(Connection, Connection, Instant), 
     let mut one = Connection::new(&client())?;
     one.open(now)?;
     let request = one.poll_transmit().ok_or("a Request")?;
-    let Accepted::Connection(mut other) = Connection::accept(server, &request.bytes, now)? else {
+    let AcceptOutcome::Connection(mut other) = Connection::accept(server, &request.bytes, now)?
+    else {
         return Err("a Request is accepted".into());
     };
     while one.phase() != Phase::Open || other.phase() != Phase::Open {
@@ -245,7 +246,7 @@ fn a_client_speaks_first_to_a_server_that_never_does() -> Result<(), Box<dyn Err
     let mut one = Connection::new(&client())?;
     one.open(now)?;
     let request = one.poll_transmit().ok_or("a Request")?;
-    let Accepted::Connection(mut other) = Connection::accept(&server(), &request.bytes, now)?
+    let AcceptOutcome::Connection(mut other) = Connection::accept(&server(), &request.bytes, now)?
     else {
         return Err("a Request is accepted".into());
     };
@@ -277,7 +278,7 @@ fn a_stranger_is_answered_by_a_reset_and_makes_no_connection() -> Result<(), Box
     let (mut one, _, now) = open_pair()?;
     one.send(b"stray", now)?;
     let stray = one.poll_transmit().ok_or("data")?;
-    let Accepted::Answer(answer) = Connection::accept(&server(), &stray.bytes, now)? else {
+    let AcceptOutcome::Answer(answer) = Connection::accept(&server(), &stray.bytes, now)? else {
         return Err("it is answered".into());
     };
     assert_eq!((kind(&answer), answer.is_answer), (7, true));

@@ -5,7 +5,7 @@
 //! An input is a list of calls, each a byte that names it and what it needs; where the bytes end, the rest is 0.
 #![no_main]
 
-use dccp::{Accepted, Config, Connection, Event, Fate, Feature, Listener, MOST_FRAME_BYTES, Place};
+use dccp::{AcceptOutcome, Config, Connection, Event, Fate, Feature, Listener, MOST_FRAME_BYTES, Place};
 use libfuzzer_sys::fuzz_target;
 use std::net::SocketAddr;
 use std::time::{Duration, Instant};
@@ -144,7 +144,7 @@ fuzz_target!(|data: &[u8]| {
             (1, none) => {
                 let datagram = input.datagram(&last.0[0]);
                 let config = Config::server(there, here, 42, 9).holding(input.number() % 5);
-                if let Ok(Accepted::Connection(it)) = Connection::accept(&config, &datagram, now) {
+                if let Ok(AcceptOutcome::Connection(it)) = Connection::accept(&config, &datagram, now) {
                     *none = Some(it);
                 }
             }

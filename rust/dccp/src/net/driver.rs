@@ -10,7 +10,7 @@ use super::wire::{Batch, Wire};
 use super::{Error, Socket};
 use crate::endpoint::{REFUSED, TOO_BUSY};
 use crate::frames::Frames;
-use crate::{Accepted, Config, Connection, CookieKeys, Phase};
+use crate::{AcceptOutcome, Config, Connection, CookieKeys, Phase};
 use std::collections::{HashMap, HashSet};
 use std::io;
 use std::net::{IpAddr, Ipv6Addr, SocketAddr};
@@ -225,7 +225,7 @@ impl Driver {
         let met = match place {
             Room::Free => Connection::accept(&config, datagram, Instant::now()),
             Room::Refusal { code } => Ok(Connection::refuse(&config, datagram, code)
-                .map_or(Accepted::Nothing, Accepted::Answer)),
+                .map_or(AcceptOutcome::Nothing, AcceptOutcome::Answer)),
             Room::Silence => return,
         };
         if let Ok(accepted) = met {
@@ -302,7 +302,7 @@ impl Driver {
         // A peer that returns a cookie has shown its address: half-open connections make room for it at once.
         let has_place = self.lines.len() < most;
         if has_place || matches!(self.make_room(now, Duration::ZERO), Room::Free) {
-            self.take_in(peer, Accepted::Connection(connection));
+            self.take_in(peer, AcceptOutcome::Connection(connection));
         }
         true
     }
@@ -353,14 +353,14 @@ impl Driver {
     }
 
     /// Takes what became of a stranger's datagram.
-    fn take_in(&mut self, peer: SocketAddr, accepted: Accepted) {
+    fn take_in(&mut self, peer: SocketAddr, accepted: AcceptOutcome) {
         match accepted {
-            Accepted::Connection(mut connection) if connection.phase() == Phase::Closed => {
+            AcceptOutcome::Connection(mut connection) if connection.phase() == Phase::Closed => {
                 let mut frames = Frames::default();
                 connection.exchange_frames(&mut frames);
                 self.wire.send(peer, &frames);
             }
-            Accepted::Connection(connection) => {
+            AcceptOutcome::Connection(connection) => {
                 let Some(reception) = &self.reception else {
                     return;
                 };
@@ -371,8 +371,8 @@ impl Driver {
                 self.lines.insert(peer, Arc::clone(&line));
                 self.announce(&line);
             }
-            Accepted::Answer(frame) => self.wire.send_frame(peer, &frame.bytes),
-            Accepted::Nothing => {}
+            AcceptOutcome::Answer(frame) => self.wire.send_frame(peer, &frame.bytes),
+            AcceptOutcome::Nothing => {}
         }
     }
 

@@ -134,12 +134,12 @@ impl Inbox {
 }
 
 /// The data that wait to be read, here or in the end.
-pub(super) struct Waiting<'a> {
+pub(super) struct WaitingData<'a> {
     inbox: &'a mut Inbox,
     connection: &'a mut Connection,
 }
 
-impl Waiting<'_> {
+impl WaitingData<'_> {
     /// The next packet.
     pub(super) fn take(&mut self) -> Option<Vec<u8>> {
         self.inbox.take().or_else(|| self.connection.read())
@@ -317,7 +317,7 @@ impl State {
 }
 
 /// The threads to be woken after a call.
-struct Wakes {
+struct WakeList {
     readers: bool,
     writers: bool,
 }
@@ -421,7 +421,7 @@ impl Line {
     }
 
     /// Settles the state after a call, plans when it has something to do next, and returns who is to be woken.
-    fn attend(&self, state: &mut State, now: Instant) -> Wakes {
+    fn attend(&self, state: &mut State, now: Instant) -> WakeList {
         state.settle(now);
         let at = state.alarm();
         if state.scheduled.is_none_or(|planned| at < planned) {
@@ -429,7 +429,7 @@ impl Line {
             self.agenda.note(at, self.peer);
         }
         let is_over = state.end.is_some();
-        Wakes {
+        WakeList {
             readers: state.readers != 0 && (is_over || state.waiting() != 0),
             writers: state.writers != 0 && (is_over || state.has_room()),
         }
@@ -516,12 +516,12 @@ impl Line {
     pub(super) fn read<T>(
         &self,
         wait: Wait,
-        mut take: impl FnMut(&mut Waiting<'_>) -> Option<T>,
+        mut take: impl FnMut(&mut WaitingData<'_>) -> Option<T>,
     ) -> Result<T, Error> {
         let (mut state, mut has_yielded) = (self.state(), matches!(wait, Wait::Not));
         loop {
             let own = &mut *state;
-            let mut waiting = Waiting {
+            let mut waiting = WaitingData {
                 inbox: &mut own.inbox,
                 connection: &mut own.connection,
             };

@@ -90,14 +90,14 @@ struct Message {
 }
 
 #[repr(C)]
-struct Watched {
+struct PollEntry {
     descriptor: c_int,
     events: c_short,
     found: c_short,
 }
 
 const _: () = assert!(size_of::<Name>() == 28 && size_of::<Message>() == 64);
-const _: () = assert!(size_of::<Header>() == 56 && size_of::<Watched>() == 8);
+const _: () = assert!(size_of::<Header>() == 56 && size_of::<PollEntry>() == 8);
 const _: () = assert!(size_of::<Control>() == 24);
 
 unsafe extern "C" {
@@ -109,7 +109,7 @@ unsafe extern "C" {
         timeout: *mut c_void,
     ) -> c_int;
     fn sendmmsg(socket: c_int, messages: *mut Message, count: c_uint, flags: c_int) -> c_int;
-    fn poll(watched: *mut Watched, count: c_ulong, milliseconds: c_int) -> c_int;
+    fn poll(watched: *mut PollEntry, count: c_ulong, milliseconds: c_int) -> c_int;
     fn setsockopt(
         socket: c_int,
         level: c_int,
@@ -193,7 +193,7 @@ fn set(socket: &UdpSocket, level: c_int, name: c_int, value: &'static c_int) {
 
 /// Waits until a datagram comes, the bell rings, or the time is over.
 fn wait(socket: &UdpSocket, bell: &UnixDatagram, wait: Duration) -> io::Result<()> {
-    let watched = |descriptor| Watched {
+    let watched = |descriptor| PollEntry {
         descriptor,
         events: POLLIN,
         found: 0,

@@ -48,4 +48,4 @@ mod wire;
 pub use error::{End, Error};
 pub use listener::Listener;
 pub use options::Options;
-pub use socket::{Receiver, Sender, Sent, Socket};
+pub use socket::{Receiver, Sender, SentBatch, Socket};

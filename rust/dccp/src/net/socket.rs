@@ -15,11 +15,11 @@ use std::sync::Arc;
 use std::time::{Duration, Instant};
 
 /// A connection that is closed when its last owner is dropped.
-struct Owned {
+struct SocketOwner {
     line: Arc<Line>,
 }
 
-impl Drop for Owned {
+impl Drop for SocketOwner {
     fn drop(&mut self) {
         self.line.let_go();
     }
@@ -30,20 +30,20 @@ impl Drop for Owned {
 /// Once it and its halves are dropped, it closes in order in the background, when all that was sent is reported, or after two seconds. A
 /// program that ends at once should call [`close`](Socket::close).
 pub struct Socket {
-    owned: Arc<Owned>,
+    owned: Arc<SocketOwner>,
 }
 
 /// What [`Socket::send_batch`] has sent: packets under successive numbers, with no other packet of this end between them.
 #[derive(Clone, Copy, Debug, PartialEq, Eq)]
 #[non_exhaustive]
-pub struct Sent {
+pub struct SentBatch {
     /// The sequence number of the first packet, for [`Socket::fate`]; 0 if there was none.
     pub first: u64,
     /// How many packets were sent.
     pub count: usize,
 }
 
-impl Sent {
+impl SentBatch {
     /// Their sequence numbers, in order, each below 2^48 (RFC 4340, section 5.1).
     pub fn numbers(self) -> impl Iterator<Item = u64> {
         (0..self.count as u64).map(move |place| (self.first + place) % (1 << 48))
@@ -53,12 +53,12 @@ impl Sent {
 /// The half of a connection that sends. It may be cloned.
 #[derive(Clone)]
 pub struct Sender {
-    owned: Arc<Owned>,
+    owned: Arc<SocketOwner>,
 }
 
 /// The half of a connection that receives.
 pub struct Receiver {
-    owned: Arc<Owned>,
+    owned: Arc<SocketOwner>,
 }
 
 /// How a socket and its halves are shown: by the peer.
@@ -92,7 +92,7 @@ fn connected(address: impl ToSocketAddrs) -> io::Result<(UdpSocket, SocketAddr)>
 impl Socket {
     pub(super) fn of(line: Arc<Line>) -> Socket {
         Socket {
-            owned: Arc::new(Owned { line }),
+            owned: Arc::new(SocketOwner { line }),
         }
     }
 
@@ -153,7 +153,7 @@ impl Socket {
 
     /// Sends the first of these packets, as many as there is room for, waiting for room for one. Returns how many it sent, and under which
     /// numbers.
-    pub fn send_batch<T: AsRef<[u8]>>(&self, packets: &[T]) -> Result<Sent, Error> {
+    pub fn send_batch<T: AsRef<[u8]>>(&self, packets: &[T]) -> Result<SentBatch, Error> {
         send_batch(self.line(), packets)
     }
 
@@ -307,7 +307,7 @@ impl Sender {
     }
 
     /// As [`Socket::send_batch`].
-    pub fn send_batch<T: AsRef<[u8]>>(&self, packets: &[T]) -> Result<Sent, Error> {
+    pub fn send_batch<T: AsRef<[u8]>>(&self, packets: &[T]) -> Result<SentBatch, Error> {
         send_batch(&self.owned.line, packets)
     }
 
@@ -371,13 +371,13 @@ fn send(line: &Line, data: &[u8], wait: Wait) -> Result<u64, Error> {
     line.write(wait, |send| send(data))
 }
 
-fn send_batch<T: AsRef<[u8]>>(line: &Line, packets: &[T]) -> Result<Sent, Error> {
+fn send_batch<T: AsRef<[u8]>>(line: &Line, packets: &[T]) -> Result<SentBatch, Error> {
     line.write(Wait::Ever, |send| {
-        let mut sent = Sent { first: 0, count: 0 };
+        let mut sent = SentBatch { first: 0, count: 0 };
         for packet in packets {
             match send(packet.as_ref()) {
                 Ok(number) if sent.count == 0 => {
-                    sent = Sent {
+                    sent = SentBatch {
                         first: number,
                         count: 1,
                     }
