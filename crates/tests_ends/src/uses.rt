@@ -1,6 +1,8 @@
-//! Sessions as their owners drive them: two whose frames get lost, and a client that has a cookie.
+//! Sessions and ends with timers as their owners drive them: two whose frames get lost, a client that has a cookie, and
+//! senders that heed their readers.
 mod bursts;
 mod client_cookies;
+mod heeding;
 mod holding;
 mod pair;
 mod stories;
