@@ -73,10 +73,14 @@ impl Frame {
         self.bytes.clear();
     }
 
+    // Many frames have no options or no data, so a copy of no bytes is not begun.
     pub(crate) fn append(&mut self, piece: &[u8])
         requires { length self.old + length piece.now ≤ 2044 }
         ensures { self.new ≡ self.old ++ piece.now }
     {
+        if piece.is_empty() {
+            return;
+        }
         let _ = self.bytes.try_extend_from_slice(piece);
     }
 }
