@@ -24,8 +24,8 @@ const MOST_CHANGES: usize = 64;
 #[derive(Drop)]
 pub(crate) struct Reading {
     rows: Negotiation,
-    used: [bool; 512],
     changes: usize,
+    used: [bool; 512],
     confirms: ArrayVec<ConfirmOut, MOST_CHANGES>,
 }
 
