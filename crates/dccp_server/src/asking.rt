@@ -13,7 +13,7 @@ use dccp_sum::check;
 use init_cookies::{CookieKeys, FirstRequest, Route, first_cookie};
 
 /// What a datagram asks for.
-#[derive(Clone, Debug, Drop)]
+#[derive(Drop)]
 pub enum DatagramRequest {
     /// No connection.
     Nothing,

@@ -4,7 +4,7 @@ use dccp_listener::Peer;
 use dccp_uses::Rule;
 
 /// What has to be done as time goes by (own).
-#[derive(Clone, Copy, Debug, PartialEq, Eq)]
+#[derive(Clone, Copy, Debug)]
 pub enum Duty {
     /// A timer of the peer's end has run out, and fires.
     Ring(Peer, Timer),

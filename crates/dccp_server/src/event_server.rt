@@ -98,7 +98,7 @@ fn evicted_event(life: Option<Life>, evicted: Option<Peer>) -> Option<FlowEvent>
 }
 
 /// The server takes no new flows, and the datagram would have opened one (own).
-#[derive(Clone, Copy, Debug, PartialEq, Eq)]
+#[derive(Clone, Copy, Debug)]
 pub struct NoNewFlows;
 
 /// A [`Server`] that lists what its calls have done to its flows (own). The calls are those of the server. After each,

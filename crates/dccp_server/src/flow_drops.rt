@@ -19,7 +19,7 @@ use std::marker::Model;
 const MOST_DROPS: usize = 2048;
 
 /// Data to a peer that were dropped. No call gives one out; contracts speak of them.
-#[derive(Clone, Copy, Debug, PartialEq, Eq)]
+#[derive(Clone, Copy)]
 pub struct FlowDrop {
     /// The peer.
     pub peer: Peer,

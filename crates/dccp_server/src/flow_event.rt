@@ -11,7 +11,7 @@ use dccp_listener::{Heard, Peer};
 use dccp_uses::Restraint;
 
 /// Why a connection of a server is over (own).
-#[derive(Clone, Copy, Debug, PartialEq, Eq)]
+#[derive(Clone, Copy, PartialEq, Eq)]
 pub enum EndCause {
     /// The peer has closed or aborted it.
     Peer,
@@ -28,7 +28,7 @@ pub enum EndCause {
 }
 
 /// Why a connection is over, and its Reset Code (RFC 4340, section 5.6): None if no Reset was sent or received.
-#[derive(Clone, Copy, Debug, PartialEq, Eq)]
+#[derive(Clone, Copy, PartialEq, Eq)]
 pub struct EndReason {
     /// Why.
     pub cause: EndCause,
@@ -37,7 +37,7 @@ pub struct EndReason {
 }
 
 /// What has happened to a flow (own).
-#[derive(Clone, Copy, Debug, PartialEq, Eq)]
+#[derive(Clone, Copy, PartialEq, Eq)]
 pub enum EventKind {
     /// The handshake is complete: the peer has shown that it hears the answers.
     Opened,
@@ -56,7 +56,7 @@ pub enum EventKind {
 }
 
 /// An event, and the peer of its flow (own).
-#[derive(Clone, Copy, Debug, PartialEq, Eq)]
+#[derive(Clone, Copy, PartialEq, Eq)]
 pub struct FlowEvent {
     /// The peer of the flow.
     pub peer: Peer,
@@ -67,7 +67,7 @@ pub struct FlowEvent {
 }
 
 /// What an owner sees of a flow (own).
-#[derive(Clone, Copy, Debug, PartialEq, Eq)]
+#[derive(Clone, Copy)]
 pub struct FlowState {
     /// The phase of its connection.
     pub phase: Phase,
@@ -78,7 +78,7 @@ pub struct FlowState {
 }
 
 /// The events of a call, each at most once, in this order (own).
-#[derive(Clone, Copy, Debug, PartialEq, Eq)]
+#[derive(Clone, Copy)]
 pub struct FlowEvents {
     /// The end of a flow that made room.
     pub evicted: Option<FlowEvent>,

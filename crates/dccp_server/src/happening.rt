@@ -11,7 +11,7 @@ use dccp_listener::{Heard, NoFlow};
 use dccp_uses::{Rule, Sight, is_delivery, is_taken};
 
 /// A datagram that a flow's end has heard.
-#[derive(Clone, Copy, Debug, PartialEq, Eq)]
+#[derive(Clone, Copy)]
 pub struct HeardDatagram {
     /// What the rules saw of the end before.
     pub was: Sight,
@@ -24,7 +24,7 @@ pub struct HeardDatagram {
 }
 
 /// What happened to a flow's end.
-#[derive(Clone, Copy, Debug, PartialEq, Eq)]
+#[derive(Clone, Copy)]
 pub enum FlowHappening {
     /// It was made, and has answered a Request.
     Opened,

@@ -9,7 +9,7 @@ use dccp_endpoint::{Endpoint, Outcome, Phase, Seen, Seq48};
 use dccp_listener::{Heard, NoFlow};
 
 /// What an owner knows of a flow besides its end (own). Times are in milliseconds since any moment.
-#[derive(Clone, Copy, Debug, PartialEq, Eq)]
+#[derive(Clone, Copy)]
 pub struct Life {
     /// The phase of its connection.
     pub phase: Phase,
@@ -24,7 +24,7 @@ pub struct Life {
 }
 
 /// What a packet shows about the peer (own).
-#[derive(Clone, Copy, Debug, PartialEq, Eq)]
+#[derive(Clone, Copy)]
 pub struct Signs {
     /// The packet was taken.
     pub taken: bool,

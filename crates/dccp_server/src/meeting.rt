@@ -22,7 +22,7 @@ use init_cookies::{
 
 /// When a Request of a peer without a flow is answered with an Init Cookie, and no flow is made (RFC 4340, section
 /// 8.1.4; own). Without a key it never is.
-#[derive(Clone, Copy, Debug, PartialEq, Eq)]
+#[derive(Clone, Copy)]
 pub enum CookieUse {
     /// Never.
     Never,
@@ -33,7 +33,7 @@ pub enum CookieUse {
 }
 
 /// The kinds of datagrams, as a server meets them.
-#[derive(Clone, Debug, Drop)]
+#[derive(Drop)]
 pub enum DatagramKind {
     /// One that is served.
     Plain,
@@ -46,7 +46,7 @@ pub enum DatagramKind {
 }
 
 /// The way in which a datagram was met (RFC 4340, section 8.1.4; own).
-#[derive(Clone, Copy, Debug, PartialEq, Eq)]
+#[derive(Clone, Copy, PartialEq, Eq)]
 pub enum Way {
     /// It was served as if there were no cookies.
     Plain,
@@ -62,7 +62,7 @@ pub enum Way {
 }
 
 /// The result of a datagram that was met (own).
-#[derive(Clone, Copy, Debug, PartialEq, Eq)]
+#[derive(Clone, Copy)]
 pub struct Meeting {
     /// Its result as it arrived; if it was not served, the answer of a fresh end, or nothing.
     pub arrival: ArrivalResult,

@@ -15,7 +15,7 @@ use std::cmp::Ordering;
 
 /// The ticket of a peer: the time at which something of this class is due (own). Tickets are ordered by class, then by
 /// time, then by peer. The order of the fields makes a ticket 16 bytes.
-#[derive(Clone, Copy, Debug, PartialEq, Eq)]
+#[derive(Clone, Copy, PartialEq, Eq)]
 pub struct Ticket {
     /// The time, in milliseconds.
     pub time: u64,

@@ -17,7 +17,7 @@ use dccp_endpoint::{NoMemory, Outbox, Seen, Seq48, Timer, UserCall};
 use dccp_listener::{Heard, NoFlow, Peer};
 
 /// The result of a datagram (own).
-#[derive(Clone, Copy, Debug, PartialEq, Eq)]
+#[derive(Clone, Copy)]
 pub struct ArrivalResult {
     /// What became of it, or None if it was left out, since it would have been answered by one Sync too many. NoMemory
     /// if it would have opened a flow and there was no memory.
@@ -29,7 +29,7 @@ pub struct ArrivalResult {
 }
 
 // The result of a datagram that was heard.
-#[derive(Clone, Copy, Debug, PartialEq, Eq)]
+#[derive(Clone, Copy)]
 pub(crate) struct HearingResult {
     pub(crate) heard: Result<Heard, NoMemory>,
     pub(crate) evicted: Option<Peer>,

@@ -21,7 +21,7 @@ pub fn answers_to_strangers() -> Limit
 }
 
 /// The rules of a server (own). Times are in milliseconds; None means for ever.
-#[derive(Clone, Copy, Debug, PartialEq, Eq)]
+#[derive(Clone, Copy, Debug)]
 pub struct Rules {
     /// Whether a Request at a full table ends the flow that has been in TIMEWAIT for longest, or else the one that has
     /// been in RESPOND for longest, if it is over its time.

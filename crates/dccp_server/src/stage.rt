@@ -7,7 +7,7 @@ use crate::register::Moment;
 use dccp_endpoint::Phase;
 
 /// The stage of a flow, as far as a server's rules use it (own).
-#[derive(Clone, Copy, Debug, PartialEq, Eq)]
+#[derive(Clone, Copy)]
 pub enum Stage {
     /// It has answered a Request and heard nothing since: RESPOND.
     HalfOpen,

@@ -9,7 +9,7 @@ use dccp_listener::Heard;
 use path_rules::{Bucket, Limit, TokenGrant, resets_to_strangers};
 
 /// What is left of the limits of answers to strangers.
-#[derive(Clone, Copy, Debug, PartialEq, Eq)]
+#[derive(Clone, Copy)]
 pub struct Strangers {
     /// What is left of the limit of all answers.
     pub answers: Bucket,
@@ -18,7 +18,7 @@ pub struct Strangers {
 }
 
 /// Whether an answer goes out, and what is left of the limits then.
-#[derive(Clone, Copy, Debug, PartialEq, Eq)]
+#[derive(Clone, Copy)]
 pub struct StrangerAnswer {
     /// It goes out.
     pub goes: bool,

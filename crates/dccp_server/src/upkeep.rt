@@ -14,7 +14,7 @@ use dccp_uses::{
 };
 
 /// What an owner keeps for a flow's end (own): its timers, and what is known of its path.
-#[derive(Clone, Copy, Debug, PartialEq, Eq)]
+#[derive(Clone, Copy, Debug)]
 pub struct Upkeep {
     /// The timers that run.
     pub alarms: Alarms,
