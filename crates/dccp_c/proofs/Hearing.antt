@@ -8,7 +8,7 @@ use Rattle.seq_circle.specs.declared.memory.NoMemory.{NoMemory}
 use Rattle.dccp_server.specs.Events.{WatchedServer, ends_old, entry_at, heard_on, is_shut_out, room_maker}
 use Rattle.dccp_server.specs.FlowInboxes.{Inboxes, begun_fresh, flow_speaks}
 use Rattle.dccp_server.specs.Meeting.{IsMet, may_meet}
-use Rattle.dccp_server.specs.Rooms.{told_of_arrival}
+use Rattle.server_peers.specs.Strangers.{told_of_arrival}
 use Rattle.dccp_server.specs.declared.meeting.Way.{Way}
 use Rattle.dccp_c.specs.Listening.{Forgets, HandsHeard, HasTakenIn, HearsAtServer, HearsDatagram, HearsIfOpen, OwnedServerState, MayDeliver, holds_forgotten, holds_met, inboxes_begun}
 use Rattle.dccp_c.specs.Framing.{FrameFields}

@@ -5,9 +5,9 @@ use Rattle.dccp_options.specs.Kinds.{init_cookie}
 use Rattle.dccp_options.specs.Written.{spelled}
 use Rattle.dccp_packets.specs.Grammar.{decoded}
 use Rattle.dccp_packets.specs.Outgoing.{Outgoing}
-use Rattle.dccp_server.specs.Meeting.{asking_of, cookie_read, opening_in}
-use Rattle.dccp_server.specs.declared.asking.DatagramRequest.{DatagramRequest}
-use Rattle.dccp_server.specs.declared.asking.DatagramRequest.TheVariants.{Nothing, TooLong, This}
+use Rattle.server_peers.specs.Requests.{asking_of, cookie_read, opening_in}
+use Rattle.server_peers.specs.declared.asking.DatagramRequest.{DatagramRequest}
+use Rattle.server_peers.specs.declared.asking.DatagramRequest.TheVariants.{Nothing, TooLong, This}
 use Rattle.dccp_states.specs.declared.outcome.Outcome.{Outcome}
 use Rattle.dccp_sum.specs.declared.pseudo_header.Pseudo.{Pseudo}
 use Rattle.dccp_sum.specs.declared.pseudo_header.Pseudo.TheVariants.{V4, V6}

@@ -3,14 +3,15 @@ use Rattle.std.specs.Prelude.{ℕ, is_some, Option, Some, None, unwrap_or, if◌
 use Rattle.std.specs.Option.{option_map}
 use Rattle.dccp_listener.specs.Peers.{end_of_peer}
 use Rattle.dccp_listener.specs.declared.peer.Peer.{Peer}
-use Rattle.dccp_server.specs.Events.{WatchedServer, events_left, first_event}
+use Rattle.dccp_server.specs.Events.{WatchedServer}
+use Rattle.server_peers.specs.Events.{events_left, first_event}
 use Rattle.dccp_server.specs.FlowInboxes.{event_kept}
 use Rattle.dccp_server.specs.Rooms.{with_user}
-use Rattle.dccp_server.specs.declared.flow_event.EndCause.{EndCause}
-use Rattle.dccp_server.specs.declared.flow_event.EndCause.TheVariants as causes
-use Rattle.dccp_server.specs.declared.flow_event.EventKind.{EventKind}
-use Rattle.dccp_server.specs.declared.flow_event.EventKind.TheVariants as kinds
-use Rattle.dccp_server.specs.declared.flow_event.FlowEvent.{FlowEvent}
+use Rattle.server_peers.specs.declared.flow_event.EndCause.{EndCause}
+use Rattle.server_peers.specs.declared.flow_event.EndCause.TheVariants as causes
+use Rattle.server_peers.specs.declared.flow_event.EventKind.{EventKind}
+use Rattle.server_peers.specs.declared.flow_event.EventKind.TheVariants as kinds
+use Rattle.server_peers.specs.declared.flow_event.FlowEvent.{FlowEvent}
 use Rattle.dccp_c.specs.Listening.{OwnedServerState, address_of}
 use Rattle.dccp_c.specs.declared.flow_events.EventView.{EventView}
 use Rattle.dccp_c.specs.declared.peer.PeerAddress.{PeerAddress}

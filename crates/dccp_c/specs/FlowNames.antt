@@ -1,6 +1,6 @@
 -- The names under which a listener in C knows its peers (own).
 use Rattle.std.specs.Prelude.{ℕ, ◌==◌, ◌&&◌, Bool}
-use Rattle.dccp_server.specs.Naming.{stand_in}
+use Rattle.server_peers.specs.Naming.{stand_in}
 use Rattle.dccp_c.specs.Listening.{address_of}
 use Rattle.dccp_c.specs.Making.{first_four, pseudo_of}
 use Rattle.dccp_c.specs.declared.making.Settings.{Settings}

@@ -1,6 +1,6 @@
 -- The first numbers of the flows of a listener in C (own).
 use Rattle.std.specs.Prelude.{ℕ}
-use Rattle.dccp_server.specs.FirstNumbers.{keyed_number}
+use Rattle.server_peers.specs.FirstNumbers.{keyed_number}
 use Rattle.dccp_c.specs.Listening.{peer_named}
 use Rattle.dccp_c.specs.Making.{first_four}
 use Rattle.dccp_c.specs.declared.flow_numbers.Key.{Key}

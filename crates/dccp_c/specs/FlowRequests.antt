@@ -2,7 +2,8 @@
 use Rattle.std.specs.Prelude.{ℕ, Bool, is_some, List, Option, Some, None, if◌then◌else◌}
 use Rattle.dccp_listener.specs.declared.peer.Peer.{Peer}
 use Rattle.dccp_server.specs.Events.{WatchedServer, shut_out}
-use Rattle.dccp_server.specs.Refusals.{flow_asked, refused_frame}
+use Rattle.dccp_server.specs.Refusals.{refused_frame}
+use Rattle.server_peers.specs.Refusals.{flow_asked}
 use Rattle.dccp_c.specs.Framing.{FrameFields, handed_of, nothing_handed}
 use Rattle.dccp_c.specs.Telling.{is_short}
 

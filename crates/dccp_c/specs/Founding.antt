@@ -6,11 +6,11 @@ use Rattle.dccp_c.specs.Accepting.{as_server}
 use Rattle.dccp_c.specs.Listening.{OwnedServerState}
 use Rattle.dccp_c.specs.Making.{configured_by, first_four}
 use Rattle.dccp_c.specs.declared.making.Care.{Care}
-use Rattle.dccp_server.specs.Events.{no_events}
+use Rattle.server_peers.specs.Events.{no_events}
 use Rattle.dccp_server.specs.FlowInboxes.{no_inboxes}
 use Rattle.dccp_server.specs.Rooms.{ruled_begins}
 use Rattle.feature_lists.specs.Lists.{is_distinct}
-use Rattle.dccp_server.specs.Rules.{usual_rules}
+use Rattle.server_peers.specs.Rules.{usual_rules}
 use Rattle.dccp_c.specs.declared.making.Settings.{Settings}
 use Rattle.dccp_c.specs.declared.making.Wish.{Wish}
 

@@ -11,13 +11,16 @@ use Rattle.dccp_listener.specs.declared.calls.Heard.{Heard}
 use Rattle.seq_circle.specs.declared.memory.NoMemory.{NoMemory}
 use Rattle.dccp_packets.specs.ResetCodes.{number_of_code}
 use Rattle.dccp_packets.specs.declared.reset_code.ResetCode.TheVariants as codes
-use Rattle.dccp_server.specs.Events.{WatchedServer, aborted_end, called_on, ends_old, entry_at, heard_on, is_shut_out, room_maker, shut_out, silent_end, ticked_on}
+use Rattle.dccp_server.specs.Events.{WatchedServer, called_on, ends_old, entry_at, heard_on, is_shut_out, room_maker, shut_out, ticked_on}
+use Rattle.server_peers.specs.Events.{aborted_end, silent_end}
 use Rattle.dccp_server.specs.FlowInboxes.{FlowDelivery, Inboxes, begun_fresh, flow_delivers, flow_speaks, no_flow_delivery, tidied, tidied_if, without_inbox_of}
-use Rattle.dccp_server.specs.Lives.{life_of}
-use Rattle.dccp_server.specs.Meeting.{IsMet, may_meet, rekeyed}
-use Rattle.dccp_server.specs.Places.{peer_after}
+use Rattle.server_peers.specs.Lives.{life_of}
+use Rattle.dccp_server.specs.Meeting.{IsMet, may_meet}
+use Rattle.server_peers.specs.CookieUses.{rekeyed}
+use Rattle.server_peers.specs.Places.{peer_after}
 use Rattle.dccp_server.specs.Refusals.{refused_frame}
-use Rattle.dccp_server.specs.Rooms.{Room, RuledRoom, duty_done, duty_frame, duty_in, duty_peer, forgets, room_does, room_waits, told_of_arrival}
+use Rattle.dccp_server.specs.Rooms.{Room, RuledRoom, duty_done, duty_frame, duty_in, duty_peer, forgets, room_does, room_waits}
+use Rattle.server_peers.specs.Strangers.{told_of_arrival}
 use Rattle.dccp_server.specs.Serving.{Does, flow_restraint, upkeep_at}
 use Rattle.dccp_uses.specs.declared.reader.Restraint.{Restraint}
 use Rattle.dccp_uses.specs.declared.rule.Rule.{Rule}
@@ -26,13 +29,13 @@ use Rattle.path_rules.specs.declared.limits.Limit.{Limit}
 use Rattle.dccp_server.specs.declared.duty.Duty.{Duty}
 use Rattle.dccp_server.specs.declared.flow_drops.FlowDrop.{FlowDrop}
 use Rattle.dccp_server.specs.declared.duty.Duty.TheVariants.{Ring, Follow, GiveUp}
-use Rattle.dccp_server.specs.declared.flow_event.EndCause.TheVariants as causes
-use Rattle.dccp_server.specs.declared.life.Life.{Life}
-use Rattle.dccp_server.specs.declared.meeting.CookieUse.{CookieUse}
-use Rattle.dccp_server.specs.declared.meeting.CookieUse.TheVariants.{Always, InACrowd, Never}
+use Rattle.server_peers.specs.declared.flow_event.EndCause.TheVariants as causes
+use Rattle.server_peers.specs.declared.life.Life.{Life}
+use Rattle.server_peers.specs.declared.cookie_use.CookieUse.{CookieUse}
+use Rattle.server_peers.specs.declared.cookie_use.CookieUse.TheVariants.{Always, InACrowd, Never}
 use Rattle.dccp_server.specs.declared.meeting.Way.{Way}
 use Rattle.dccp_server.specs.declared.meeting.Way.TheVariants as way
-use Rattle.dccp_server.specs.declared.rules.Rules.{Rules}
+use Rattle.server_peers.specs.declared.rules.Rules.{Rules}
 use Rattle.dccp_c.specs.declared.flow_rules.FlowRules.{FlowRules}
 use Rattle.dccp_c.specs.declared.flow_rules.FlowLife.{FlowLife}
 use Rattle.dccp_listener.specs.declared.peer.Peer.{Peer}

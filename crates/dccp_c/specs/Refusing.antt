@@ -1,7 +1,7 @@
 -- How a server turns a datagram away without an end (own; RFC 4340, sections 5.6 and 8.3.1).
 use Rattle.std.specs.Prelude.{ℕ, ◌^◌, nat_lt, ◌==◌, List, Result, Ok, Err, if◌then◌else◌}
 use Rattle.dccp_endpoint.specs.declared.config.Config.{Config}
-use Rattle.dccp_server.specs.Refusals.{opens_by, refusal_frame}
+use Rattle.server_peers.specs.Refusals.{opens_by, refusal_frame}
 use Rattle.dccp_c.specs.Accepting.{as_server}
 use Rattle.dccp_c.specs.Framing.{FrameFields, handed_of, nothing_handed}
 use Rattle.dccp_c.specs.Making.{usual_of_settings}

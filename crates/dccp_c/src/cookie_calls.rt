@@ -16,9 +16,9 @@ use crate::sizes::SETTINGS_BYTES;
 use crate::steps::{new_end, receive};
 use crate::{Key, Settings, Wish};
 use dccp_endpoint::{Config, MOST_FRAME_BYTES, Outcome, Pseudo};
-use dccp_server::{DatagramRequest, append_cookie, asking_of, opening_of};
 use dccp_uses::is_taken;
 use init_cookies::{CookieKeys, FirstRequest, Route, put_request};
+use server_peers::{DatagramRequest, append_cookie, asking_of, opening_of};
 use std::alloc::Global;
 
 /// The keys of a server's Init Cookies. Times are in milliseconds, as in each call.

@@ -8,7 +8,7 @@ use crate::making::{first_four, pseudo_of};
 use crate::peer::address_of;
 use crate::sizes::SETTINGS_BYTES;
 use crate::{PeerAddress, Settings};
-use dccp_server::stand_in;
+use server_peers::stand_in;
 
 fn name_by(listener: &Settings, path: &Settings, turn: u16) -> PeerAddress
     ensures { result ≡ name_by listener.now path.now turn }

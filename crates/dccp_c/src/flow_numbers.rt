@@ -8,7 +8,7 @@ use crate::making::first_four;
 use crate::peer::peer_named;
 use crate::sizes::SETTINGS_BYTES;
 use crate::{PeerAddress, Settings};
-use dccp_server::keyed_number;
+use server_peers::keyed_number;
 
 /// The key from which a first number is drawn: 32 bytes that nobody can guess.
 #[repr(C)]

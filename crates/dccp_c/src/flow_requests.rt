@@ -4,7 +4,8 @@ ghost use Rattle.dccp_c.specs.FlowRequests.{asks_code, refused_after, refused_le
 ghost use Rattle.dccp_c.specs.Framing.{handed_in};
 ghost use Rattle.dccp_c.specs.Listening.{inboxes_in, made_code, peer_named, watched_in};
 ghost use Rattle.dccp_server.specs.Events.{shut_out};
-ghost use Rattle.dccp_server.specs.Refusals.{flow_asked, refused_frame};
+ghost use Rattle.dccp_server.specs.Refusals.{refused_frame};
+ghost use Rattle.server_peers.specs.Refusals.{flow_asked};
 
 use crate::codes::{DONE, NO_CONNECTION, NOT_MADE, TOO_LONG};
 use crate::frame::Frame;

@@ -9,7 +9,7 @@ use crate::frame::Frame;
 use crate::making::pseudo_of;
 use crate::sizes::SETTINGS_BYTES;
 use dccp_endpoint::{Config, MOST_FRAME_BYTES, Outbox, Ports, Role, Seq48};
-use dccp_server::refuse;
+use server_peers::refuse;
 
 // The usual server of these settings, or the code by which they are refused.
 fn answering_by(settings: &Settings) -> Result<Config, u32>

@@ -10,13 +10,13 @@ use Rattle.dccp_listener.specs.declared.peer.Peer.{Peer}
 use Rattle.dccp_states.specs.declared.outcome.Outcome.{Outcome}
 use Rattle.seq_circle.specs.declared.memory.NoMemory.{NoMemory}
 use Rattle.dccp_states.specs.declared.seen.Seen.TheVariants.{Received}
-use Rattle.dccp_server.specs.Lives.{life_of, signs_in}
+use Rattle.server_peers.specs.Lives.{life_of, signs_in}
 use Rattle.dccp_server.specs.Rooms.{RoomStep, HasArrived, HasHeard, IsJudged, IsRoomMade, Room, begun_anew, comes_by, comes_heard, comes_if, counted_room, forgets, heard_or_fault, heard_plainly, is_to_be_heard, left_out, left_without_memory, room_does, room_made, unless_fault, who_leaves}
 use Rattle.dccp_server.specs.Serving.{Does}
-use Rattle.dccp_server.specs.Rules.{begins_anew}
-use Rattle.dccp_server.specs.declared.life.Life.{Life}
-use Rattle.dccp_server.specs.declared.life.Signs.{Signs}
-use Rattle.dccp_server.specs.declared.rules.Rules.{Rules}
+use Rattle.dccp_server.specs.Anew.{begins_anew}
+use Rattle.server_peers.specs.declared.life.Life.{Life}
+use Rattle.server_peers.specs.declared.life.Signs.{Signs}
+use Rattle.server_peers.specs.declared.rules.Rules.{Rules}
 
 abbrev coming : Room → Option Outgoing → Option CallTold → Option Peer → Bool → RoomStep
 coming room frame told evicted anew = record { room = room; frame = frame; told = told; evicted = evicted; anew = anew }

@@ -34,11 +34,11 @@ use Rattle.dccp_server.specs.Timing.{flow_after}
 use Rattle.dccp_server.specs.Upkeeps.{call_for_rule, called_so, first_due, kept_alarm, next_upkeep, timed_flow, upkeep_begins, upkeep_of}
 use Rattle.dccp_server.specs.declared.happening.FlowHappening.{FlowHappening}
 use Rattle.dccp_server.specs.declared.happening.FlowHappening.TheVariants as happening
-use Rattle.dccp_server.specs.declared.queue.Ticket.{Ticket}
+use Rattle.server_peers.specs.declared.queue.Ticket.{Ticket}
 use Rattle.dccp_server.specs.declared.upkeep.Upkeep.{Upkeep}
 use Rattle.dccp_server.proofs.Refusing.{IsResting, kept_at, rests_after, resting}
 use Rattle.dccp_server.proofs.Timing.{same_kept}
-use Rattle.dccp_server.proofs.Tying.{found_among}
+use Rattle.server_peers.proofs.Among.{found_among}
 
 one-if : Bool → ℕ
 one-if true = 1

@@ -12,7 +12,7 @@ use Rattle.dccp_listener.specs.Peers.{FlowEnd, end_of_peer, is_peer, peer_cmp}
 use Rattle.dccp_listener.specs.Runs.{CallTold}
 use Rattle.dccp_listener.specs.declared.peer.Peer.{Peer}
 use Rattle.dccp_states.specs.declared.outcome.Outcome.TheVariants.{Took}
-use Rattle.dccp_server.specs.Events.{data_told}
+use Rattle.server_peers.specs.Events.{data_told}
 use Rattle.dccp_server.specs.FlowInboxes.{HasFewInboxes, InboxesStayFew, Inboxes, begun_fresh, flow_delivers_by, flow_inbox, flow_takes_in, has_data_by, lacks_place, lies_within, needs_no_inbox, no_flow_delivery, tidied_by, with_flow_inbox, with_flow_inbox_by, with_place, without_inbox_of}
 
 few-left-by : {V : Type 0} (one : Peer × V) (es rest : List (Peer × V)) (here : Bool) → length rest ≤ length es

@@ -12,11 +12,11 @@ use Rattle.dccp_uses.specs.declared.rule.Rule.{Rule}
 use Rattle.dccp_uses.specs.declared.sight.Sight.{Sight}
 use Rattle.dccp_server.specs.Upkeeps.{arrived_so, call_for_rule, called_so, next_upkeep, sight_if}
 use Rattle.dccp_server.specs.Serving.{IsDone, ServedListener, Upkeeps, call_by_rule, call_due, deed_served, rule_followed, frame_if, happening_by, is_refusal, listening_if, served, serves_on, upkeep_at, upkeeps_then}
-use Rattle.dccp_server.specs.Places.{IsPlaced}
+use Rattle.server_peers.specs.Places.{IsPlaced}
 use Rattle.dccp_server.specs.declared.happening.FlowHappening.{FlowHappening}
 use Rattle.dccp_server.specs.declared.happening.FlowHappening.TheVariants as happening
 use Rattle.dccp_server.specs.declared.upkeep.Upkeep.{Upkeep}
-use Rattle.dccp_server.proofs.Placing.{then_placed}
+use Rattle.server_peers.proofs.Placing.{then_placed}
 
 module _ (fresh : Upkeep) (now : ℕ) (had : Bool) (before : ListenerState) (pace : Pace) (kept placed then' : Upkeeps) (peer : Peer) where
   abbrev s : ServedListener

@@ -5,13 +5,13 @@ use Rattle.dccp_listener.specs.Listens.{listens}
 use Rattle.dccp_listener.specs.Runs.{CallTold, HadNoMemory, Stepped, WasBusy}
 use Rattle.dccp_listener.specs.declared.peer.Peer.{Peer}
 use Rattle.dccp_states.specs.declared.calls.Timer.TheVariants as timers
-use Rattle.dccp_server.specs.Lives.{life_of, signs_of}
+use Rattle.server_peers.specs.Lives.{life_of, signs_of}
 use Rattle.dccp_server.specs.Rooms.{RoomStep, LivesChangeNothing, Room, RuledRoom, RulesAreDeeds, begun_anew, comes_by, comes_if, does_all, duty_done, heard_plainly, is_to_be_heard, room_does, room_made, who_leaves}
-use Rattle.dccp_server.specs.Rules.{begins_anew, refuses_last_sync}
+use Rattle.dccp_server.specs.Anew.{begins_anew, refuses_last_sync}
 use Rattle.dccp_server.specs.Serving.{Does, PeerDeed, Follows, ServedListener, Spends, TimedDeed, served_by, served_through}
 use Rattle.dccp_server.specs.declared.duty.Duty.{Duty}
 use Rattle.dccp_server.specs.declared.duty.Duty.TheVariants.{Follow}
-use Rattle.dccp_server.specs.declared.rules.Rules.{Rules}
+use Rattle.server_peers.specs.declared.rules.Rules.{Rules}
 use Rattle.dccp_uses.specs.declared.rule.Rule.{Rule}
 
 abbrev IsByDoings : Room → Room → Type 0

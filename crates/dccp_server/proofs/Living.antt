@@ -7,13 +7,13 @@ use Rattle.dccp_listener.specs.Peers.{FlowEnd, ListenerState, end_of_peer}
 use Rattle.dccp_listener.specs.declared.config.ListenConfig.{ListenConfig}
 use Rattle.dccp_listener.specs.declared.peer.Peer.{Peer}
 use Rattle.dccp_uses.specs.declared.pace.Pace.{Pace}
-use Rattle.dccp_server.specs.Lives.{Lives, life_of, life_then, lives_on, no_signs, user_written}
-use Rattle.dccp_server.specs.Places.{HasPlaceIf, IsPlaced}
+use Rattle.server_peers.specs.Lives.{Lives, life_of, life_then, lives_on, no_signs, user_written}
+use Rattle.server_peers.specs.Places.{HasPlaceIf, IsPlaced}
 use Rattle.dccp_server.specs.Rooms.{IsLiving, Room, as_room, room_does, room_then, signs_by, with_user}
 use Rattle.dccp_server.specs.Serving.{Does, PeerDeed, Follows, ServedListener, Spends, call_due, deed_served, rule_followed, listening_if, serving_begins, upkeep_at}
-use Rattle.dccp_server.specs.declared.life.Life.{Life}
-use Rattle.dccp_server.specs.declared.life.Signs.{Signs}
-use Rattle.dccp_server.proofs.Placing.{then_placed}
+use Rattle.server_peers.specs.declared.life.Life.{Life}
+use Rattle.server_peers.specs.declared.life.Signs.{Signs}
+use Rattle.server_peers.proofs.Placing.{then_placed}
 use Rattle.dccp_server.proofs.Through.{spent_same}
 use Rattle.dccp_server.proofs.Tying.{begun_tied, has_place, kept_same, place_if, tied_by, tied_does}
 

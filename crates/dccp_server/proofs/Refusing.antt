@@ -43,8 +43,9 @@ use Rattle.dccp_server.specs.Upkeeps.{called_so, upkeep_begins}
 use Rattle.dccp_server.specs.declared.happening.FlowHappening.{FlowHappening}
 use Rattle.dccp_server.specs.declared.happening.FlowHappening.TheVariants as happening
 use Rattle.dccp_server.specs.declared.upkeep.Upkeep.{Upkeep}
-use Rattle.dccp_server.proofs.Placing.{none_gone}
-use Rattle.dccp_server.proofs.Tying.{all_after, begun_tied, found_among, none_from, not_among, tied_does}
+use Rattle.server_peers.proofs.Placing.{none_gone}
+use Rattle.dccp_server.proofs.Tying.{begun_tied, tied_does}
+use Rattle.server_peers.proofs.Among.{all_after, found_among, none_from, not_among}
 
 -- an end that refuses a call is as it was
 

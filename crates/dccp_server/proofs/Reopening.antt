@@ -13,8 +13,8 @@ use Rattle.init_cookies.specs.declared.cookie.CookieKeys.{CookieKeys}
 use Rattle.seq_circle.specs.declared.memory.NoMemory.{NoMemory}
 use Rattle.dccp_server.specs.Meeting.{IsGreeted, IsMet, MovesNobody, cleared, entry_met, going_by, greeting_frame, hurrying, received_hurrying, request_at, unreceived_hurrying, unreopened}
 use Rattle.dccp_server.specs.Rooms.{IsServed, Reception, RuledRoom, received_at, unreceived_at}
-use Rattle.dccp_server.specs.declared.meeting.DatagramKind.{DatagramKind}
-use Rattle.dccp_server.specs.declared.meeting.DatagramKind.TheVariants as entry
+use Rattle.server_peers.specs.declared.asking.DatagramKind.{DatagramKind}
+use Rattle.server_peers.specs.declared.asking.DatagramKind.TheVariants as entry
 use Rattle.dccp_server.specs.declared.meeting.Way.{Way}
 use Rattle.dccp_server.specs.declared.meeting.Way.TheVariants as way
 

@@ -13,15 +13,15 @@ use Rattle.feature_lists.specs.declared.features.Feature.TheVariants.{AckRatio}
 use Rattle.feature_lists.specs.declared.features.Place.TheVariants.{Here}
 use Rattle.dccp_uses.specs.declared.rule.Rule.TheVariants as rule
 use Rattle.dccp_server.specs.FlowDrops.{flow_drop_code, flow_recorded}
-use Rattle.dccp_server.specs.Lives.{Lives, signs_of, stands_in}
+use Rattle.server_peers.specs.Lives.{Lives, signs_of, stands_in}
 use Rattle.dccp_uses.specs.Anew.{is_same_number, refused_number}
-use Rattle.dccp_server.specs.Rules.{first_given_up, is_crowd, least_left, life_left, makes_way, no_rules, usual_rules}
-use Rattle.dccp_server.specs.Strangers.{is_no_connection, spared, spared_if, strangers_begin}
+use Rattle.server_peers.specs.Rules.{first_given_up, is_crowd, least_left, life_left, makes_way, no_rules, usual_rules}
+use Rattle.server_peers.specs.Strangers.{is_no_connection, spared, spared_if, strangers_begin}
 use Rattle.dccp_server.specs.Upkeeps.{arrived_so, call_if_held, called_so, rule_call}
 use Rattle.dccp_server.specs.declared.flow_drops.FlowDrop.{FlowDrop}
 use Rattle.dccp_server.specs.declared.happening.FlowHappening.TheVariants as happening
-use Rattle.dccp_server.specs.declared.life.Life.{Life}
-use Rattle.dccp_server.specs.declared.strangers.Strangers.{Strangers}
+use Rattle.server_peers.specs.declared.life.Life.{Life}
+use Rattle.server_peers.specs.declared.strangers.Strangers.{Strangers}
 
 -- a peer at an address that ends so
 abbrev peer : ℕ → Peer

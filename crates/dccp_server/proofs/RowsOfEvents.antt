@@ -7,12 +7,13 @@ use Rattle.dccp_states.specs.declared.phase.Phase.{Phase}
 use Rattle.dccp_states.specs.declared.phase.Phase.TheVariants as phase
 use Rattle.dccp_states.specs.declared.seen.Seen.TheVariants.{Received}
 use Rattle.dccp_sum.specs.declared.pseudo_header.Pseudo.TheVariants.{V4, V6}
-use Rattle.dccp_server.specs.Events.{aborted_end, data_told, ending_heard, ends_old, event_if, events_between, events_left, evicted_event, first_event, no_events, room_maker, silent_end}
-use Rattle.dccp_server.specs.Lives.{no_life}
-use Rattle.dccp_server.specs.Naming.{stand_in}
-use Rattle.dccp_server.specs.declared.flow_event.EndCause.TheVariants as causes
-use Rattle.dccp_server.specs.declared.flow_event.EventKind.TheVariants as kinds
-use Rattle.dccp_server.specs.declared.flow_event.FlowState.{FlowState}
+use Rattle.dccp_server.specs.Events.{ends_old, room_maker}
+use Rattle.server_peers.specs.Events.{aborted_end, data_told, ending_heard, event_if, events_between, events_left, evicted_event, first_event, no_events, silent_end}
+use Rattle.server_peers.specs.Lives.{no_life}
+use Rattle.server_peers.specs.Naming.{stand_in}
+use Rattle.server_peers.specs.declared.flow_event.EndCause.TheVariants as causes
+use Rattle.server_peers.specs.declared.flow_event.EventKind.TheVariants as kinds
+use Rattle.server_peers.specs.declared.flow_event.FlowState.{FlowState}
 use Rattle.dccp_server.specs.declared.meeting.Way.TheVariants as way
 
 -- a peer

@@ -12,15 +12,16 @@ use Rattle.dccp_states.specs.declared.phase.Phase.TheVariants as phase
 use Rattle.dccp_uses.specs.declared.pace.Pace.{Pace}
 use Rattle.dccp_uses.specs.declared.rule.Rule.TheVariants as rule
 use Rattle.dccp_uses.specs.declared.timed_end.Due.TheVariants as due
-use Rattle.dccp_server.specs.Lives.{Lives, life_of, no_life, no_signs, rank_of, signs_in}
-use Rattle.dccp_server.specs.Places.{peer_after}
+use Rattle.server_peers.specs.Lives.{Lives, life_of, no_life, no_signs, rank_of, signs_in}
+use Rattle.server_peers.specs.Places.{peer_after}
 use Rattle.dccp_server.specs.Rooms.{Room, as_room, doing_for, duty_in, duty_of, is_crowded, is_to_stranger, room_begins, room_waits, who_is_over, who_leaves}
-use Rattle.dccp_server.specs.Rules.{begins_anew, longest, makes_way, no_rules, over_in, queue_of_lives, refuses_last_sync, signs_noted, usual_rules}
+use Rattle.server_peers.specs.Rules.{longest, makes_way, no_rules, over_in, queue_of_lives, usual_rules}
+use Rattle.dccp_server.specs.Anew.{begins_anew, refuses_last_sync, signs_noted}
 use Rattle.dccp_server.specs.Serving.{Does, Follows, ServedListener, serving_begins}
 use Rattle.dccp_server.specs.declared.duty.Duty.TheVariants.{Follow, GiveUp, Ring}
-use Rattle.dccp_server.specs.declared.life.Life.{Life}
-use Rattle.dccp_server.specs.declared.life.Signs.{Signs}
-use Rattle.dccp_server.specs.declared.stage.Stage.TheVariants.{HalfOpen, Lingering}
+use Rattle.server_peers.specs.declared.life.Life.{Life}
+use Rattle.server_peers.specs.declared.life.Signs.{Signs}
+use Rattle.server_peers.specs.declared.stage.Stage.TheVariants.{HalfOpen, Lingering}
 
 -- a peer at an address that ends so
 abbrev at : ℕ → Peer

@@ -17,20 +17,20 @@ use Rattle.dccp_uses.specs.declared.alarms.Alarm.{Alarm}
 use Rattle.dccp_uses.specs.declared.timed_end.Due.{Due}
 use Rattle.dccp_server.specs.Due.{never}
 use Rattle.dccp_server.specs.Ending.{EachMayStay, NoneIsPassedOver}
-use Rattle.dccp_server.specs.Lives.{Lives}
-use Rattle.dccp_server.specs.Queues.{AreTicketsInOrder, first_in, moment_if, paired, queue_of, ticket, ticket_cmp}
-use Rattle.dccp_server.specs.Rules.{class_of, first_given_up, holder, is_none_left, left_since, life_moment, limit_in, longest, or_else, over_in, since_in, stage_left}
+use Rattle.server_peers.specs.Lives.{Lives}
+use Rattle.server_peers.specs.Queues.{AreTicketsInOrder, first_in, moment_if, paired, queue_of, ticket, ticket_cmp}
+use Rattle.server_peers.specs.Rules.{class_of, first_given_up, holder, is_none_left, left_since, life_moment, limit_in, longest, or_else, over_in, since_in, stage_left}
 use Rattle.dccp_server.specs.Serving.{Upkeeps, due_of_flow, due_of_ticket, first_due_flow, soonest, wait_until}
 use Rattle.dccp_server.specs.Upkeeps.{earlier, alarm_end, first_due, first_end, kept_alarm, on_clock, upkeep_moment}
-use Rattle.dccp_server.specs.declared.life.Life.{Life}
-use Rattle.dccp_server.specs.declared.queue.Ticket.{Ticket}
-use Rattle.dccp_server.specs.declared.rules.Rules.{Rules}
-use Rattle.dccp_server.specs.declared.stage.Stage.{Stage}
-use Rattle.dccp_server.specs.declared.stage.Stage.TheVariants as stage
+use Rattle.server_peers.specs.declared.life.Life.{Life}
+use Rattle.server_peers.specs.declared.queue.Ticket.{Ticket}
+use Rattle.server_peers.specs.declared.rules.Rules.{Rules}
+use Rattle.server_peers.specs.declared.stage.Stage.{Stage}
+use Rattle.server_peers.specs.declared.stage.Stage.TheVariants as stage
 use Rattle.dccp_server.specs.declared.upkeep.Upkeep.{Upkeep}
-use Rattle.dccp_server.proofs.Classes.{no_more_than}
-use Rattle.dccp_server.proofs.Ordered.{first_of, less_from, rest_of}
-use Rattle.dccp_server.proofs.Tickets.{exact_tickets, found, its_ticket, queue_ordered, stands, tickets_total}
+use Rattle.server_peers.proofs.Classes.{no_more_than}
+use Rattle.server_peers.proofs.Ordered.{first_of, less_from, rest_of}
+use Rattle.server_peers.proofs.Tickets.{exact_tickets, found, its_ticket, queue_ordered, stands, tickets_total}
 
 -- the first ticket of a class comes first
 

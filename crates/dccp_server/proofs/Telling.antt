@@ -2,13 +2,14 @@
 use Rattle.std.proofs.Common.{◌≡◌, ap, ◌∙◌, ℕ, Bool, List, Option, None}
 use Rattle.dccp_listener.specs.Runs.{CallTold}
 use Rattle.dccp_listener.specs.declared.peer.Peer.{Peer}
-use Rattle.dccp_server.specs.Events.{WatchedServer, called_on, data_told, ending_heard, events_arrived, events_between, evicted_event, flow_state, heard_on, leaver_life}
+use Rattle.dccp_server.specs.Events.{WatchedServer, called_on, events_arrived, flow_state, heard_on, leaver_life}
+use Rattle.server_peers.specs.Events.{data_told, ending_heard, events_between, evicted_event}
 use Rattle.dccp_server.specs.Rooms.{RuledRoom}
-use Rattle.dccp_server.specs.declared.flow_event.EndReason.{EndReason}
-use Rattle.dccp_server.specs.declared.flow_event.FlowEvent.{FlowEvent}
-use Rattle.dccp_server.specs.declared.flow_event.FlowEvents.{FlowEvents}
-use Rattle.dccp_server.specs.declared.flow_event.FlowState.{FlowState}
-use Rattle.dccp_server.specs.declared.life.Life.{Life}
+use Rattle.server_peers.specs.declared.flow_event.EndReason.{EndReason}
+use Rattle.server_peers.specs.declared.flow_event.FlowEvent.{FlowEvent}
+use Rattle.server_peers.specs.declared.flow_event.FlowEvents.{FlowEvents}
+use Rattle.server_peers.specs.declared.flow_event.FlowState.{FlowState}
+use Rattle.server_peers.specs.declared.life.Life.{Life}
 
 -- the server was this before, and is that then, and its owner is told by what he saw before
 pub called_as : (s t : WatchedServer) (after aim : RuledRoom) (peer : Peer) (was : Option FlowState) (ending wanted : EndReason)

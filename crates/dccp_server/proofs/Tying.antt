@@ -27,13 +27,14 @@ use Rattle.dccp_listener.specs.declared.peer.Peer.{Peer}
 use Rattle.dccp_uses.specs.Rules.{due_rule}
 use Rattle.dccp_uses.specs.declared.pace.Pace.{Pace}
 use Rattle.seq_circle.specs.declared.memory.NoMemory.{NoMemory}
-use Rattle.dccp_server.specs.Places.{HasPlaceIf, kept_then}
+use Rattle.server_peers.specs.Places.{HasPlaceIf, kept_then}
 use Rattle.dccp_server.specs.Serving.{CallsWantNoMemory, Does, PeerDeed, Follows, IsTied, OnlyStrangersWantMemory, ServedListener, Spends, TimedDeed, Upkeeps, UpkeepsStandWithFlows, WantsMemory, call_due, upkeep_counted, deed_served, happening_by, listening_if, served, served_by, served_through, serves_on, serving_begins, served_counted_by, upkeep_at}
 use Rattle.dccp_server.specs.Upkeeps.{next_upkeep}
 use Rattle.dccp_server.specs.declared.happening.FlowHappening.{FlowHappening}
 use Rattle.dccp_server.specs.declared.happening.FlowHappening.TheVariants as happening
 use Rattle.dccp_server.specs.declared.upkeep.Upkeep.{Upkeep}
 use Rattle.dccp_server.proofs.Through.{none_in_order}
+use Rattle.server_peers.proofs.Among.{found_among, none_from, not_among, all_after}
 
 -- peers with one less, and with one more
 
@@ -67,19 +68,6 @@ module _ {X : Type 0} where
   keys-with peer v [] = refl
   keys-with peer v (x ∷ xs) = with-by peer v x xs (insert_entry peer_cmp xs peer v) (with-peer (keys_of xs) peer) (peer_cmp peer x.0) (keys-with peer v xs)
 
-  -- who is found is among them
-  among-by : (v : X) (rest : Option X) (others here : Bool) → is_some rest ≡ others → is_some (cond here (Some v) rest) ≡ (here || others)
-  among-by v rest others true is = refl
-  among-by v rest others false is = is
-
-  pub found_among : (test : Peer → Bool) (xs : List (Peer × X)) → is_some (lookup test xs) ≡ list_any test (keys_of xs)
-  found_among test [] = refl
-  found_among test (x ∷ xs) = among-by x.1 (lookup test xs) (list_any test (keys_of xs)) (test x.0) (found_among test xs)
-
-  pub none_from : (found : Option X) → is_some found ≡ false → found ≡ None
-  none_from None is = refl
-  none_from (Some v) is = absurd (false≢true (sym is))
-
 -- one that is not there is not taken out
 stays-by : (test : Peer → Bool) (k : Peer) (ks : List Peer) (here : Bool) → (here || list_any test ks) ≡ false
     → (list_any test ks ≡ false → without test ks ≡ ks) → cond here ks (k ∷ without test ks) ≡ k ∷ ks
@@ -92,15 +80,6 @@ stays test [] none = refl
 stays test (k ∷ ks) none = stays-by test k ks (test k) none (stays test ks)
 
 -- and one that is there is not put twice
-pub all_after : (peer k : Peer) (ks : List Peer) → peer_cmp peer k ≡ Less → AllByRecursion (λ other. peer_cmp k other ≡ Less) ks
-    → AllByRecursion (λ other. peer_cmp peer other ≡ Less) ks
-all_after peer k [] is all = tt
-all_after peer k (other ∷ ks) is all = (peers_total.trans peer k other is all.0, all_after peer k ks is all.1)
-
-pub not_among : (peer : Peer) (ks : List Peer) → AllByRecursion (λ other. peer_cmp peer other ≡ Less) ks → list_any (is_peer peer) ks ≡ false
-not_among peer [] all = refl
-not_among peer (k ∷ ks) all = ap (λ (o : Ordering). is_eq o || list_any (is_peer peer) ks) all.0 ∙ not_among peer ks all.1
-
 once-by : (peer k : Peer) (ks : List Peer) (o : Ordering) → peer_cmp peer k ≡ o → AllByRecursion (λ other. peer_cmp k other ≡ Less) ks
     → (is_eq o || list_any (is_peer peer) ks) ≡ true → (list_any (is_peer peer) ks ≡ true → with-peer ks peer ≡ ks)
     → match_ordering o (peer ∷ k ∷ ks) (k ∷ ks) (k ∷ with-peer ks peer) ≡ k ∷ ks

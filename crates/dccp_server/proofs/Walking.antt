@@ -8,7 +8,7 @@ use Rattle.std.specs.Prelude.{slice_get}
 use Rattle.dccp_listener.proofs.OnePeer.{peers_total}
 use Rattle.dccp_listener.specs.Peers.{peer_cmp}
 use Rattle.dccp_listener.specs.declared.peer.Peer.{Peer}
-use Rattle.dccp_server.specs.Places.{WalksNameEachOnce, peer_after, peers_walked}
+use Rattle.server_peers.specs.Places.{WalksNameEachOnce, peer_after, peers_walked}
 
 abbrev AllAfter : Peer → List Peer → Type 0
 AllAfter peer peers = AllByRecursion (λ other. peer_cmp peer other ≡ Less) peers

@@ -11,12 +11,12 @@ use Rattle.dccp_uses.specs.declared.pace.Pace.{Pace}
 use Rattle.dccp_uses.specs.declared.timed_end.Due.{Due}
 use Rattle.dccp_uses.specs.declared.timed_end.Due.TheVariants as due
 use Rattle.dccp_server.specs.Due.{never}
-use Rattle.dccp_server.specs.Lives.{Lives}
-use Rattle.dccp_server.specs.Rules.{first_given_up, is_none_left, life_left}
+use Rattle.server_peers.specs.Lives.{Lives}
+use Rattle.server_peers.specs.Rules.{first_given_up, is_none_left, life_left}
 use Rattle.dccp_server.specs.Serving.{PeerDeed, Does, Follows, ServedListener, TimedDeed, Upkeeps, first_due_flow, least_wait, served_by, served_through, serving_begins}
 use Rattle.dccp_server.specs.Upkeeps.{first_due}
-use Rattle.dccp_server.specs.declared.life.Life.{Life}
-use Rattle.dccp_server.specs.declared.rules.Rules.{Rules}
+use Rattle.server_peers.specs.declared.life.Life.{Life}
+use Rattle.server_peers.specs.declared.rules.Rules.{Rules}
 use Rattle.dccp_server.specs.declared.upkeep.Upkeep.{Upkeep}
 
 -- what is done with what is due: a timer of the peer's end fires, or a rule is followed

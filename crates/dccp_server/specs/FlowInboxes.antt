@@ -12,11 +12,11 @@ use Rattle.dccp_endpoint.specs.End.{last_taken}
 use Rattle.dccp_listener.specs.Peers.{FlowEnd, end_of_peer, is_peer, peer_cmp}
 use Rattle.dccp_listener.specs.Runs.{CallTold}
 use Rattle.dccp_listener.specs.declared.peer.Peer.{Peer}
-use Rattle.dccp_server.specs.Events.{data_told}
+use Rattle.server_peers.specs.Events.{data_told}
 use Rattle.dccp_server.specs.Rooms.{RuledRoom}
-use Rattle.dccp_server.specs.declared.flow_event.EventKind.{EventKind}
-use Rattle.dccp_server.specs.declared.flow_event.EventKind.TheVariants as kinds
-use Rattle.dccp_server.specs.declared.flow_event.FlowEvent.{FlowEvent}
+use Rattle.server_peers.specs.declared.flow_event.EventKind.{EventKind}
+use Rattle.server_peers.specs.declared.flow_event.EventKind.TheVariants as kinds
+use Rattle.server_peers.specs.declared.flow_event.FlowEvent.{FlowEvent}
 use Rattle.dccp_states.specs.declared.outcome.Outcome.{Outcome}
 use Rattle.dccp_states.specs.declared.outcome.Outcome.TheVariants.{Took}
 

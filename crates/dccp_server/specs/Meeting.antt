@@ -1,53 +1,32 @@
 -- How a server meets a datagram that may need no flow, or may bring its opening back (RFC 4340, section 8.1.4; own).
-use Rattle.std.specs.Prelude.{◌≡◌, ◌==◌, ◌&&◌, not, nat_le, ℕ, Bool, true, false, List, length, Option, Some, None, is_some, Result, Ok, Err, if◌then◌else◌}
-use Rattle.dccp_options.specs.Grammar.{options_of}
-use Rattle.dccp_packets.specs.Grammar.{Parts, decoded, packet_type}
-use Rattle.dccp_packets.specs.Kinds.{is_data}
+use Rattle.std.specs.Prelude.{◌≡◌, ◌&&◌, not, ℕ, Bool, true, false, List, Option, Some, None, is_some, Result, Ok, Err, if◌then◌else◌}
+use Rattle.dccp_packets.specs.Grammar.{decoded}
 use Rattle.dccp_packets.specs.Outgoing.{Outgoing}
-use Rattle.dccp_packets.specs.declared.header.Header.{Header}
-use Rattle.dccp_packets.specs.declared.header.Kind.{Kind}
-use Rattle.dccp_packets.specs.declared.header.Kind.TheVariants as kind
-use Rattle.dccp_packets.specs.declared.header.Number.{Number}
-use Rattle.dccp_packets.specs.declared.header.Number.TheVariants.{Long}
-use Rattle.dccp_packets.specs.declared.reading.Malformed.{Malformed}
-use Rattle.dccp_sum.specs.Checksum.{checked}
-use Rattle.dccp_sum.specs.declared.packet_sum.SumFault.{SumFault}
-use Rattle.dccp_sum.specs.declared.pseudo_header.Pseudo.TheVariants.{V4}
 use Rattle.dccp_options.specs.Written.{spelled}
 use Rattle.dccp_options.specs.Kinds.{init_cookie}
 use Rattle.dccp_listener.specs.Greeting.{greets}
 use Rattle.dccp_listener.specs.Peers.{FlowEnd, end_of_peer}
 use Rattle.dccp_listener.specs.declared.calls.Heard.{Heard}
 use Rattle.dccp_listener.specs.declared.calls.Heard.TheVariants as heard
-use Rattle.dccp_listener.specs.declared.config.ListenConfig.{ListenConfig}
 use Rattle.dccp_listener.specs.declared.peer.Peer.{Peer}
-use Rattle.dccp_states.specs.declared.phase.Phase.{Phase}
-use Rattle.dccp_states.specs.declared.phase.Phase.TheVariants as phases
 use Rattle.dccp_uses.specs.Timed.{is_taken}
 use Rattle.init_cookies.specs.Appending.{appended}
-use Rattle.init_cookies.specs.CookieOptions.{first_cookie}
-use Rattle.init_cookies.specs.Cookies.{cookie_bytes, cookie_opening}
+use Rattle.init_cookies.specs.Cookies.{cookie_bytes}
 use Rattle.init_cookies.specs.Openings.{OpeningState, request_bytes}
 use Rattle.dccp_sum.specs.Checksum.{reversed}
 use Rattle.init_cookies.specs.declared.cookie.CookieKeys.{CookieKeys}
 use Rattle.init_cookies.specs.declared.route.Route.{Route}
 use Rattle.seq_circle.specs.declared.memory.NoMemory.{NoMemory}
-use Rattle.dccp_server.specs.Lives.{life_of}
+use Rattle.server_peers.specs.Lives.{life_of}
+use Rattle.server_peers.specs.CookieUses.{hurried, is_ever_in_use, is_half_open, is_in_use}
+use Rattle.server_peers.specs.Requests.{asking_of, cookie_read, entry_by, opening_in, route_of}
 use Rattle.dccp_server.specs.Rooms.{IsServed, RuledRoom, forgets, is_crowded, is_to_be_heard, received_at, unreceived_at, with_user}
 use Rattle.dccp_server.specs.Serving.{TimedDeed, served_through}
-use Rattle.dccp_server.specs.declared.asking.DatagramRequest.{DatagramRequest}
-use Rattle.dccp_server.specs.declared.asking.DatagramRequest.TheVariants.{Nothing, TooLong, This}
-use Rattle.dccp_server.specs.declared.meeting.DatagramKind.{DatagramKind}
-use Rattle.dccp_server.specs.declared.meeting.DatagramKind.TheVariants as entry
+use Rattle.server_peers.specs.declared.asking.DatagramKind.{DatagramKind}
+use Rattle.server_peers.specs.declared.asking.DatagramKind.TheVariants as entry
 use Rattle.dccp_server.specs.declared.meeting.Way.{Way}
 use Rattle.dccp_server.specs.declared.meeting.Way.TheVariants as way
-use Rattle.dccp_server.specs.declared.rules.Rules.{Rules}
-use Rattle.dccp_server.specs.declared.meeting.CookieUse.{CookieUse}
-use Rattle.dccp_server.specs.declared.meeting.CookieUse.TheVariants.{Always, InACrowd, Never}
-
--- the route between a peer and the listener (section 5.1)
-abbrev pub route_of : ListenConfig → Peer → Route
-route_of config peer = record { pseudo = V4 peer.address config.own_address; from = peer.port; to = config.own_port }
+use Rattle.server_peers.specs.declared.rules.Rules.{Rules}
 
 -- the same for a server
 abbrev pub route_to : RuledRoom → Peer → Route
@@ -56,50 +35,6 @@ route_to s peer = route_of s.room.served.listening.config peer
 -- the end that a peer has at a server
 abbrev pub flow_at : RuledRoom → Peer → Option FlowEnd
 flow_at s peer = end_of_peer s.room.served.listening.flows peer
-
--- a Request with this area, number and service, answered now under this number
-abbrev pub asking_this : ℕ → ℕ → List ℕ → ℕ → ℕ → DatagramRequest
-asking_this now iss area number service =
-    if nat_le (length area) 220 then This (record { time = now; iss = iss; number = number; service = service; options = area }) else TooLong
-
--- what a packet of this type and number asks for (section 5.2)
-abbrev pub asking_by : ℕ → ℕ → List ℕ → Kind → Number → DatagramRequest
-asking_by now iss area (kind.Request service) (Long number) = asking_this now iss area number service
-asking_by now iss area _ _ = Nothing
-
--- the checksum of a packet is right (section 9.1)
-abbrev pub is_summed : Result (Unit {0}) SumFault → Bool
-is_summed (Ok _) = true
-is_summed (Err fault) = false
-
--- its checksum and its ports are those of the route
-abbrev pub travels_by : Route → List ℕ → Header → Bool
-travels_by route bytes h = is_summed (checked route.pseudo bytes) && (h.from == route.from && h.to == route.to)
-
--- what a datagram asks for, by what was read of it
-abbrev pub asking_read : ℕ → ℕ → Route → List ℕ → Result Parts Malformed → DatagramRequest
-asking_read now iss route bytes (Ok p) =
-    if travels_by route bytes p.header then asking_by now iss p.options p.header.kind p.header.number else Nothing
-asking_read now iss route bytes (Err fault) = Nothing
-
--- What a datagram that came by this route asks for: it has to be a Request whose checksum and ports are right.
-abbrev pub asking_of : ℕ → ℕ → Route → List ℕ → DatagramRequest
-asking_of now iss route bytes = asking_read now iss route bytes (decoded bytes)
-
--- the first Init Cookie of a packet
-abbrev pub cookie_read : Result Parts Malformed → Option (List ℕ)
-cookie_read (Ok p) = first_cookie (options_of p.options (is_data (packet_type p.header.kind)))
-cookie_read (Err fault) = None
-
--- what a cookie opens, if there is one
-abbrev pub opening_in : ℕ → CookieKeys → Route → Option (List ℕ) → Option OpeningState
-opening_in now keys route None = None
-opening_in now keys route (Some body) = cookie_opening keys now route body
-
--- a flow in this phase is half open: its server has sent a Response and heard nothing since (section 8.1.3)
-abbrev pub is_half_open : Phase → Bool
-is_half_open phases.Respond = true
-is_half_open _ = false
 
 -- a peer has no flow, or one that is half open
 abbrev pub is_unproved : Option FlowEnd → Bool
@@ -116,30 +51,12 @@ returned_by now s peer bytes (Some keys) =
 abbrev pub returned : ℕ → RuledRoom → Peer → List ℕ → Option OpeningState
 returned now s peer bytes = returned_by now s peer bytes s.keys
 
--- cookies are used for peers without a flow
-abbrev pub is_in_use : CookieUse → Bool → Bool
-is_in_use Never crowded = false
-is_in_use InACrowd crowded = crowded
-is_in_use Always crowded = true
-
--- cookies are used at all
-abbrev pub is_ever_in_use : CookieUse → Bool
-is_ever_in_use Never = false
-is_ever_in_use InACrowd = true
-is_ever_in_use Always = true
-
 -- a Request of a peer with this end or none needs no flow: there is none and cookies are in use, or it is half open and
 -- the answer would be one Sync too many
 abbrev pub needs_no_flow : ℕ → RuledRoom → Peer → List ℕ → Option FlowEnd → Bool
 needs_no_flow now s peer bytes None = is_in_use s.cookies (is_crowded s.room)
 needs_no_flow now s peer bytes (Some e) =
     is_ever_in_use s.cookies && (is_half_open e.state.phase && not (is_to_be_heard now s.rules s.room peer bytes))
-
--- the kind of a Request, by what it asks for
-abbrev pub entry_by : DatagramRequest → DatagramKind
-entry_by Nothing = entry.Plain
-entry_by TooLong = entry.TooLong
-entry_by (This o) = entry.Asks o
 
 -- the kind of a datagram that brings nothing back
 abbrev pub entry_without : ℕ → RuledRoom → Peer → ℕ → List ℕ → DatagramKind
@@ -159,11 +76,6 @@ entry_met now s peer iss bytes = entry_or (entry_without now s peer iss bytes) (
 abbrev pub request_at : RuledRoom → Peer → OpeningState → List ℕ
 request_at s peer o = request_bytes (route_to s peer) o
 
--- the keys, with this one for new cookies; the one before it stays valid for its cookies
-abbrev pub rekeyed : List ℕ → ℕ → Option CookieKeys → CookieKeys
-rekeyed key now None = record { key = key; before = key; since = now }
-rekeyed key now (Some keys) = record { key = key; before = keys.key; since = now }
-
 -- the option with the cookie of an opening
 abbrev pub cookie_at : CookieKeys → RuledRoom → Peer → OpeningState → List ℕ
 cookie_at keys s peer o = spelled false init_cookie (cookie_bytes keys (route_to s peer) o)
@@ -181,10 +93,6 @@ cleared_if now s peer (Some e) = record s { room = forgets now s.room peer }
 -- the server without that flow of a peer
 abbrev pub cleared : ℕ → RuledRoom → Peer → RuledRoom
 cleared now s peer = cleared_if now s peer (flow_at s peer)
-
--- the rules by which half-open flows are over their time at once, for a peer that has proved its address
-abbrev pub hurried : Rules → Rules
-hurried rules = record rules { respond = Some 0; crowded = Some 0 }
 
 -- the server once it goes by these rules
 abbrev pub going_by : Rules → RuledRoom → RuledRoom

@@ -17,20 +17,21 @@ use Rattle.dccp_uses.specs.Rules.{due_rule}
 use Rattle.dccp_uses.specs.declared.pace.Pace.{Pace}
 use Rattle.dccp_uses.specs.declared.timed_end.Due.{Due}
 use Rattle.dccp_uses.specs.declared.timed_end.Due.TheVariants as due
-use Rattle.dccp_server.specs.declared.meeting.CookieUse.{CookieUse}
-use Rattle.dccp_server.specs.declared.meeting.CookieUse.TheVariants.{InACrowd}
+use Rattle.server_peers.specs.declared.cookie_use.CookieUse.{CookieUse}
+use Rattle.server_peers.specs.declared.cookie_use.CookieUse.TheVariants.{InACrowd}
 use Rattle.init_cookies.specs.declared.cookie.CookieKeys.{CookieKeys}
-use Rattle.dccp_server.specs.Lives.{Lives, life_of, life_then, no_signs, signs_in, signs_of, user_written}
-use Rattle.dccp_server.specs.Rules.{begins_anew, first_given_up, is_crowd, makes_way, least_left, refuses_last_sync, signs_noted}
+use Rattle.server_peers.specs.Lives.{Lives, life_of, life_then, no_signs, signs_in, signs_of, user_written}
+use Rattle.server_peers.specs.Rules.{first_given_up, is_crowd, makes_way, least_left}
+use Rattle.dccp_server.specs.Anew.{begins_anew, refuses_last_sync, signs_noted}
 use Rattle.dccp_server.specs.Serving.{PeerDeed, Does, Follows, IsTied, ServedListener, Spends, TimedDeed, first_due_flow, doing_frame, is_admitted, least_wait, served_by, served_through, serving_begins, upkeep_at}
-use Rattle.dccp_server.specs.Strangers.{frame_if_goes, spared_if, strangers_begin}
+use Rattle.server_peers.specs.Strangers.{frame_if_goes, spared_if, strangers_begin, told_of_arrival}
 use Rattle.dccp_server.specs.declared.duty.Duty.{Duty}
 use Rattle.dccp_server.specs.declared.duty.Duty.TheVariants.{Ring, Follow, GiveUp}
-use Rattle.dccp_server.specs.declared.life.Life.{Life}
-use Rattle.dccp_server.specs.declared.life.Signs.{Signs}
-use Rattle.dccp_server.specs.declared.rules.Rules.{Rules}
-use Rattle.dccp_server.specs.declared.strangers.StrangerAnswer.{StrangerAnswer}
-use Rattle.dccp_server.specs.declared.strangers.Strangers.{Strangers}
+use Rattle.server_peers.specs.declared.life.Life.{Life}
+use Rattle.server_peers.specs.declared.life.Signs.{Signs}
+use Rattle.server_peers.specs.declared.rules.Rules.{Rules}
+use Rattle.server_peers.specs.declared.strangers.StrangerAnswer.{StrangerAnswer}
+use Rattle.server_peers.specs.declared.strangers.Strangers.{Strangers}
 
 -- the listener with the timers of its flows, and their lives
 pub record Room : Type 0 where
@@ -241,12 +242,6 @@ HasHeard now rules before after peer iss bytes frame (Ok it) evicted anew =
     record { room = after; frame = frame; told = Some (told_of (Ok it)); evicted = evicted; anew = anew } ≡ comes_heard now rules before peer iss bytes
 HasHeard now rules before after peer iss bytes frame (Err _) evicted anew =
     (after ≡ left_without_memory now before peer iss bytes evicted) × (anew ≡ false)
-
--- the result of a datagram: nothing if it was left out, or if there was no memory
-abbrev pub told_of_arrival : Result (Option Heard) NoMemory → Option CallTold
-told_of_arrival (Ok None) = None
-told_of_arrival (Ok (Some it)) = Some (told_of (Ok it))
-told_of_arrival (Err _) = None
 
 -- the result of a datagram that was heard, as one that might have been ignored
 abbrev pub heard_or_fault : Result Heard NoMemory → Result (Option Heard) NoMemory

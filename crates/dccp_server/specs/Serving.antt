@@ -22,12 +22,12 @@ use Rattle.dccp_uses.specs.declared.reader.Restraint.{Restraint}
 use Rattle.dccp_uses.specs.declared.timed_end.Due.{Due}
 use Rattle.dccp_states.specs.declared.seen.Seen.TheVariants.{Called}
 use Rattle.dccp_server.specs.Due.{never}
-use Rattle.dccp_server.specs.Places.{kept_then}
-use Rattle.dccp_server.specs.Queues.{first_in, queue_of}
+use Rattle.server_peers.specs.Places.{kept_then}
+use Rattle.server_peers.specs.Queues.{first_in, queue_of}
 use Rattle.dccp_server.specs.Upkeeps.{arrived_so, call_for_rule, called_so, first_due, next_upkeep, sight_if, upkeep_begins, upkeep_moment}
 use Rattle.dccp_server.specs.declared.happening.FlowHappening.{FlowHappening}
 use Rattle.dccp_server.specs.declared.happening.FlowHappening.TheVariants as happening
-use Rattle.dccp_server.specs.declared.queue.Ticket.{Ticket}
+use Rattle.server_peers.specs.declared.queue.Ticket.{Ticket}
 use Rattle.dccp_server.specs.declared.upkeep.Upkeep.{Upkeep}
 
 -- what is kept of each peer that has a flow, in the order of the peers

@@ -1,20 +1,20 @@
 //! A server that lists the events of its flows.
 ghost use Rattle.std.specs.Prelude.{◌≡◌, ◌≤◌, length};
-ghost use Rattle.dccp_server.specs.Events.{ends_old, evicted_event, flow_state, leaver_life, room_maker, rules_of_opening, time_of_opening};
+ghost use Rattle.dccp_server.specs.Events.{ends_old, flow_state, leaver_life, room_maker, rules_of_opening, time_of_opening};
+ghost use Rattle.server_peers.specs.Events.{evicted_event};
 
 use crate::duty::Duty;
-use crate::flow_event::{
-    EndCause, EndReason, EventKind, FlowEvent, FlowEvents, FlowState, aborted_end, data_told,
-    ending_heard, event_if, events_between, is_ended, seen_flow, silent_end,
-};
-use crate::life::Life;
-use crate::meeting::{CookieUse, Meeting, Way, hurried};
-use crate::rules::Rules;
+use crate::meeting::{Meeting, Way};
 use crate::server::Server;
 use dccp_endpoint::{Outbox, ResetCode, Seen, Seq48, UserCall};
 use dccp_listener::{ListenConfig, NoFlow, Peer};
 use dccp_uses::Pace;
 use init_cookies::FirstRequest;
+use server_peers::{
+    CookieUse, EndCause, EndReason, EventKind, FlowEvent, FlowEvents, FlowState, Life, Rules,
+    aborted_end, data_told, ending_heard, event_if, events_between, hurried, is_ended, seen_flow,
+    silent_end,
+};
 use std::alloc::Global;
 use std::marker::Model;
 
@@ -23,7 +23,10 @@ fn flow_state(server: &Server, peer: Peer) -> Option<FlowState>
     ensures { result ≡ flow_state server.now.room peer }
 {
     match server.flow(peer) {
-        Some(end) => Some(seen_flow(end, server.life(peer).user, server.restraint_at(peer, end))),
+        Some(end) => {
+            let waits = server.restraint_at(peer, end).is_some();
+            Some(seen_flow(end, server.life(peer).user, waits))
+        }
         None => None,
     }
 }
@@ -126,14 +129,18 @@ impl EventServer {
     ghost use Rattle.dccp_listener.specs.Peers.{end_of_peer};
     ghost use Rattle.dccp_listener.specs.Runs.{Stepped};
     ghost use Rattle.dccp_listener.specs.Standing.{IsListening};
-    ghost use Rattle.dccp_server.specs.Events.{aborted_end, called_on, due_state, ends_old, entry_at, events_between, events_left, first_event, flow_state, heard_on, is_shut_out, no_events, room_maker, shut_out, silent_end, ticked_on, told_of_duty};
-    ghost use Rattle.dccp_server.specs.Meeting.{IsMet, may_meet, rekeyed};
+    ghost use Rattle.dccp_server.specs.Events.{called_on, due_state, ends_old, entry_at, flow_state, heard_on, is_shut_out, room_maker, shut_out, ticked_on, told_of_duty};
+    ghost use Rattle.server_peers.specs.Events.{aborted_end, events_between, events_left, first_event, no_events, silent_end};
+    ghost use Rattle.dccp_server.specs.Meeting.{IsMet, may_meet};
+    ghost use Rattle.server_peers.specs.CookieUses.{rekeyed};
     ghost use Rattle.dccp_packets.specs.ResetCodes.{number_of_code};
     ghost use Rattle.dccp_packets.specs.declared.reset_code.ResetCode.TheVariants as codes;
-    ghost use Rattle.dccp_server.specs.Refusals.{flow_asked, refused_frame};
-    ghost use Rattle.dccp_server.specs.Rooms.{duty_done, duty_frame, duty_in, forgets, room_does, ruled_begins, told_of_arrival, with_user};
+    ghost use Rattle.dccp_server.specs.Refusals.{refused_frame};
+    ghost use Rattle.server_peers.specs.Refusals.{flow_asked};
+    ghost use Rattle.dccp_server.specs.Rooms.{duty_done, duty_frame, duty_in, forgets, room_does, ruled_begins, with_user};
+    ghost use Rattle.server_peers.specs.Strangers.{told_of_arrival};
     ghost use Rattle.dccp_server.specs.Serving.{Does};
-    ghost use Rattle.dccp_server.specs.declared.flow_event.EndCause.TheVariants as causes;
+    ghost use Rattle.server_peers.specs.declared.flow_event.EndCause.TheVariants as causes;
 
     /// A server without flows, as `Server::new` makes it. It takes no memory.
     pub fn new(alloc: Global, config: ListenConfig, pace: Pace, rules: Rules) -> EventServer

@@ -5,7 +5,6 @@ ghost use Rattle.dccp_packets.specs.Grammar.{decoded};
 ghost use Rattle.dccp_uses.specs.DropRecord.{packet_recorded, report_recorded};
 ghost use Rattle.dccp_server.specs.FlowDrops.{flow_drop_code, flow_record_after, flow_recorded};
 
-use crate::register::is_peer;
 use circular_buffer::HeapCircularBuffer;
 use data_dropped::DropReport;
 use dccp_endpoint::{NoMemory, Seq48};
@@ -13,6 +12,7 @@ use dccp_listener::Peer;
 use dccp_options::options;
 use dccp_packets::decode;
 use dccp_uses::{Reader, new_reach};
+use server_peers::is_peer;
 use std::alloc::Global;
 use std::marker::Model;
 

@@ -6,11 +6,11 @@ ghost use Rattle.dccp_listener.specs.Peers.{end_of_peer};
 ghost use Rattle.dccp_server.specs.FlowInboxes.{event_kept, flow_speaks_by, kind_kept, lies_within};
 ghost use Rattle.dccp_states.specs.declared.outcome.Outcome.TheVariants.{Took};
 
-use crate::flow_event::{EventKind, FlowEvent, data_told};
 use crate::server::Server;
 use data_dropped::{Arrival, Intake};
 use dccp_endpoint::{NoMemory, Outbox, Outcome, Seq48};
 use dccp_listener::{Heard, Peer};
+use server_peers::{EventKind, FlowEvent, data_told};
 use std::alloc::Global;
 use std::collections::BTreeMap;
 use std::marker::Model;
@@ -83,7 +83,7 @@ impl FlowInboxes {
     ghost use Rattle.data_dropped.specs.Buffering.{HasDataWithin};
     ghost use Rattle.dccp_listener.specs.Peers.{end_of_peer};
     ghost use Rattle.dccp_server.specs.FlowInboxes.{begun_fresh, flow_delivers, flow_delivers_by, flow_first_read, flow_held, flow_inbox, flow_most_said, flow_read_over, flow_speaks, flow_stopped, flow_takes_in, flow_without_first, finds_no_place, finds_no_place_by, lacks_place, needs_no_inbox, no_inboxes, tidied, tidied_if, with_place, without_inbox_of};
-    ghost use Rattle.dccp_server.specs.Rooms.{told_of_arrival};
+    ghost use Rattle.server_peers.specs.Strangers.{told_of_arrival};
     ghost use Rattle.dccp_states.specs.declared.outcome.Outcome.TheVariants.{Took};
 
     /// No flow has an inbox yet. Each inbox has room for this many packets, at most 1,024; with 0, no flow gets an

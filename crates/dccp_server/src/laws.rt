@@ -2,7 +2,7 @@
 ghost use Rattle.dccp_server.specs.Ending.{EachMayStay, ListenerTicksEnd, NoneIsPassedOver};
 ghost use Rattle.dccp_server.specs.FlowInboxes.{InboxesStayFew};
 ghost use Rattle.dccp_server.specs.Meeting.{MeetingsAreDeeds};
-ghost use Rattle.dccp_server.specs.Places.{WalksNameEachOnce};
+ghost use Rattle.server_peers.specs.Places.{WalksNameEachOnce};
 ghost use Rattle.dccp_server.specs.Rooms.{ForgottenHaveNone, LivesChangeNothing, RulesAreDeeds};
 ghost use Rattle.dccp_server.specs.Serving.{CallsAreARun, CallsWantNoMemory, OnlyStrangersWantMemory, RefusedCallsChangeNothing, UpkeepsStandWithFlows};
 ghost use Rattle.dccp_server.specs.Timing.{FlowsAreTimedEnds};

@@ -6,37 +6,24 @@
 //! [`Rules`]. There is no socket here and no clock.
 #![tactic(auto)]
 
-mod asking;
+mod anew;
 mod duty;
 mod event_server;
-mod first_number;
 mod flow_drops;
-mod flow_event;
 mod flow_inboxes;
 mod happening;
 mod laws;
-mod life;
 mod lives;
 mod meeting;
-mod naming;
-mod queue;
-mod refusal;
-mod register;
 mod room;
-mod rules;
 mod server;
 mod serving;
-mod stage;
-mod strangers;
 mod timed_listener;
 mod upkeep;
 
-pub use crate::asking::{DatagramRequest, asking_of, opening_of};
 pub use crate::duty::Duty;
 pub use crate::event_server::{EventServer, NoNewFlows};
-pub use crate::first_number::keyed_number;
 pub use crate::flow_drops::{FlowDrop, FlowDropRecord};
-pub use crate::flow_event::{EndCause, EndReason, EventKind, FlowEvent, FlowEvents, FlowState};
 pub use crate::flow_inboxes::{FlowInboxes, event_kept};
 pub use crate::happening::{FlowHappening, HeardDatagram};
 pub use crate::laws::{
@@ -45,14 +32,9 @@ pub use crate::laws::{
     refused_calls_change_nothing, rules_are_deeds, ticks_of_a_listener_end,
     walks_name_each_peer_once,
 };
-pub use crate::life::{Life, Signs};
-pub use crate::meeting::{CookieUse, Meeting, Way, append_cookie};
-pub use crate::naming::{stand_in, stand_ins_are_read_as_their_peers};
-pub use crate::refusal::refuse;
+pub use crate::meeting::{Meeting, Way};
 pub use crate::room::ArrivalResult;
-pub use crate::rules::{Rules, answers_to_strangers};
 pub use crate::server::Server;
-pub use crate::stage::Stage;
-pub use crate::strangers::{StrangerAnswer, Strangers};
 pub use crate::timed_listener::TimedListener;
 pub use crate::upkeep::Upkeep;
+pub use server_peers::{CookieUse, EndCause, EndReason, EventKind, FlowEvent, Life, Rules};

@@ -1,13 +1,12 @@
 //! The lives of the peers that have a flow.
 ghost use Rattle.std.specs.Prelude.{◌≡◌, ◌↔◌, None, IsErr};
 ghost use Rattle.dccp_listener.specs.Peers.{end_of_peer};
-ghost use Rattle.dccp_server.specs.Lives.{life_of, life_then, user_written};
-ghost use Rattle.dccp_server.specs.Places.{HasPlaceIf};
+ghost use Rattle.server_peers.specs.Lives.{life_of, life_then, user_written};
+ghost use Rattle.server_peers.specs.Places.{HasPlaceIf};
 
-use crate::life::{Life, Signs, lives_on};
-use crate::register::Register;
 use crate::timed_listener::TimedListener;
 use dccp_listener::{NoFlow, Peer};
+use server_peers::{Life, Register, Signs, lives_on};
 
 /// The life of a peer's flow, or one that has not begun if it has none.
 pub(crate) fn life_of(lives: &Register<Life>, peer: Peer) -> Life

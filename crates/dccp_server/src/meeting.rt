@@ -1,49 +1,21 @@
 //! How a server meets a datagram that may need no flow, or may bring its opening back.
-ghost use Rattle.std.specs.Prelude.{◌≡◌, ◌≤◌, IfOk, OnErr, OnOk, None, false, length};
+ghost use Rattle.std.specs.Prelude.{◌≡◌, IfOk, OnErr, OnOk, None, false};
 ghost use Rattle.dccp_listener.specs.Greeting.{greets};
-ghost use Rattle.dccp_server.specs.Meeting.{MovesNobody, entry_by, hurried, is_ever_in_use, is_half_open, is_in_use, rekeyed, route_of};
+ghost use Rattle.dccp_server.specs.Meeting.{MovesNobody};
+ghost use Rattle.server_peers.specs.Requests.{route_of};
 ghost use Rattle.init_cookies.specs.Appending.{appended};
 ghost use Rattle.init_cookies.specs.Cookies.{cookie_bytes};
 ghost use Rattle.init_cookies.specs.Openings.{request_bytes};
 ghost use Rattle.dccp_sum.specs.Checksum.{reversed};
 ghost use Rattle.dccp_options.specs.Written.{spelled};
 
-use crate::asking::{DatagramRequest, route_of};
 use crate::room::ArrivalResult;
-use crate::rules::Rules;
 use crate::timed_listener::TimedListener;
-use dccp_endpoint::{NoMemory, Outbox, Outcome, Phase};
+use dccp_endpoint::{NoMemory, Outbox, Outcome};
 use dccp_listener::{Heard, Peer};
 use dccp_packets::Frame;
-use init_cookies::{
-    CookieBytes, CookieKeys, CookieOption, FirstRequest, Route, append_options, init_cookie,
-    put_request,
-};
-
-/// When a Request of a peer without a flow is answered with an Init Cookie, and no flow is made (RFC 4340, section
-/// 8.1.4; own). Without a key it never is.
-#[derive(Clone, Copy)]
-pub enum CookieUse {
-    /// Never.
-    Never,
-    /// If more flows are in RESPOND than places are free, or if its answer would be one Sync too many.
-    InACrowd,
-    /// Always.
-    Always,
-}
-
-/// The kinds of datagrams, as a server meets them.
-#[derive(Drop)]
-pub enum DatagramKind {
-    /// One that is served.
-    Plain,
-    /// A Request that needs no flow.
-    Asks(FirstRequest),
-    /// One whose options are too long for a cookie.
-    TooLong,
-    /// A packet that brings an opening back.
-    Returns(FirstRequest),
-}
+use init_cookies::{CookieKeys, FirstRequest, put_request};
+use server_peers::{append_cookie, route_of};
 
 /// The way in which a datagram was met (RFC 4340, section 8.1.4; own).
 #[derive(Clone, Copy, PartialEq, Eq)]
@@ -135,69 +107,6 @@ pub(crate) fn leave_out(heard: Result<Option<Heard>, NoMemory>, out: &mut Outbox
     }
 }
 
-/// The keys, with this one for new cookies.
-pub(crate) fn rekeyed(keys: &Option<CookieKeys>, key: [u8; 32], now: u64) -> CookieKeys
-    ensures { result ≡ rekeyed key now keys.now }
-{
-    match keys {
-        Some(keys) => {
-            let mut keys = *keys;
-            keys.change(key, now);
-            keys
-        }
-        None => CookieKeys::new(key, now),
-    }
-}
-
-/// The kind of a Request, by what it asks for.
-pub(crate) fn entry_by(asking: DatagramRequest) -> DatagramKind
-    ensures { result ≡ entry_by asking }
-{
-    match asking {
-        DatagramRequest::Nothing => DatagramKind::Plain,
-        DatagramRequest::TooLong => DatagramKind::TooLong,
-        DatagramRequest::This(opening) => DatagramKind::Asks(opening),
-    }
-}
-
-/// The rules by which half-open flows are over their time at once.
-pub(crate) fn hurried(rules: &Rules) -> Rules
-    ensures { result ≡ hurried rules.now }
-{
-    let mut rules = *rules;
-    rules.respond = Some(0);
-    rules.crowded = Some(0);
-    rules
-}
-
-/// Whether a flow in this phase is half open.
-pub(crate) fn is_half_open(phase: Phase) -> bool
-    ensures { result ≡ is_half_open phase }
-{
-    matches!(phase, Phase::Respond)
-}
-
-/// Whether cookies are used for peers without a flow.
-pub(crate) fn is_in_use(cookies: CookieUse, crowded: bool) -> bool
-    ensures { result ≡ is_in_use cookies crowded }
-{
-    match cookies {
-        CookieUse::Never => false,
-        CookieUse::InACrowd => crowded,
-        CookieUse::Always => true,
-    }
-}
-
-/// Whether cookies are used at all.
-pub(crate) fn is_ever_in_use(cookies: CookieUse) -> bool
-    ensures { result ≡ is_ever_in_use cookies }
-{
-    match cookies {
-        CookieUse::Never => false,
-        CookieUse::InACrowd | CookieUse::Always => true,
-    }
-}
-
 // A fresh end hears the Request of an opening.
 fn greet(
     timed: &TimedListener,
@@ -224,34 +133,6 @@ fn request_of(timed: &TimedListener, peer: Peer, opening: &FirstRequest) -> Fram
     let mut request = Frame::new();
     put_request(&route, opening, &mut request);
     request
-}
-
-// The cookie of an opening, as an option.
-fn put_option(keys: &CookieKeys, route: &Route, opening: &FirstRequest, out: &mut CookieOption)
-    ensures value { out.new.items ≡ spelled false 36 (cookie_bytes keys.now route.now opening.now) }
-    ensures short { length out.new.items ≤ 255 }
-{
-    let mut bytes = CookieBytes::new();
-    keys.write(route, opening, &mut bytes);
-    init_cookie(bytes.as_slice(), out);
-}
-
-// Adds an option to the frame in the box, which goes back by a route.
-fn append_option(route: &Route, option: &CookieOption, out: &mut Outbox)
-    requires { length option.now.items ≤ 255 }
-    ensures { out.new ≡ appended (reversed route.now.pseudo) option.now.items out.old }
-{
-    let pseudo = route.back();
-    append_options(out, option.as_slice(), &pseudo);
-}
-
-/// Adds the cookie of an opening to the frame in the box, which goes back by a route, if it has room for it.
-pub fn append_cookie(keys: &CookieKeys, route: &Route, opening: &FirstRequest, out: &mut Outbox)
-    ensures { out.new ≡ appended (reversed route.now.pseudo) (spelled false 36 (cookie_bytes keys.now route.now opening.now)) out.old }
-{
-    let mut option = CookieOption::new();
-    put_option(keys, route, opening, &mut option);
-    append_option(route, &option, out);
 }
 
 // Adds the cookie of an opening to the frame in the box.

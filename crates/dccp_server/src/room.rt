@@ -4,17 +4,18 @@ ghost use Rattle.dccp_listener.specs.Calls.{seen_if};
 ghost use Rattle.dccp_listener.specs.Chain.{Arrives, Calls, asked};
 ghost use Rattle.dccp_listener.specs.Listens.{listens};
 ghost use Rattle.dccp_listener.specs.Runs.{Stepped, told_of};
-ghost use Rattle.dccp_server.specs.Lives.{life_of};
+ghost use Rattle.server_peers.specs.Lives.{life_of};
 ghost use Rattle.dccp_server.specs.Rooms.{HasArrived, HasHeard, IsJudged, IsLiving, IsRoomMade, as_room, counted_room, forgets, heard_or_fault, is_crowded, is_to_be_heard, room_does, unless_fault, who_leaves};
 ghost use Rattle.dccp_server.specs.Serving.{Does, Follows, doing_frame};
 
-use crate::life::{Life, Signs, signs_answered, signs_heard, signs_in};
+use crate::anew::{begins_anew, refuses_last_sync, signs_noted};
 use crate::lives::{go_on, life_of};
-use crate::register::Register;
-use crate::rules::{Rules, begins_anew, is_crowd, makes_way, refuses_last_sync, signs_noted};
 use crate::timed_listener::TimedListener;
 use dccp_endpoint::{NoMemory, Outbox, Seen, Seq48, Timer, UserCall};
 use dccp_listener::{Heard, NoFlow, Peer};
+use server_peers::{
+    Life, Register, Rules, Signs, is_crowd, makes_way, signs_answered, signs_heard, signs_in,
+};
 
 /// The result of a datagram (own).
 #[derive(Clone, Copy)]

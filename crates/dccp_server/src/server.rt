@@ -1,19 +1,11 @@
 //! A server, as its owner uses it.
 ghost use Rattle.std.specs.Prelude.{◌≡◌};
 
-use crate::asking::{asking_of, opening_of, route_of};
+use crate::anew::refuses_last_sync;
 use crate::duty::Duty;
-use crate::life::Life;
 use crate::lives::{life_of, write_user};
-use crate::meeting::{
-    CookieUse, DatagramKind, Meeting, Way, entry_by, greet_with_cookie, hurried, is_ever_in_use,
-    is_half_open, is_in_use, leave_out, rekeyed,
-};
-use crate::refusal::refuse_stranger;
-use crate::register::Register;
+use crate::meeting::{Meeting, Way, greet_with_cookie, leave_out};
 use crate::room::{ArrivalResult, arrive, ask, follow, forget, is_crowded, who_leaves};
-use crate::rules::{Rules, first_given_up, least_left, refuses_last_sync};
-use crate::strangers::{Strangers, answer_spared, spare};
 use crate::timed_listener::TimedListener;
 use crate::upkeep::Upkeep;
 use ccid_two::Kinds;
@@ -22,6 +14,11 @@ use dccp_listener::{ListenConfig, NoFlow, Peer};
 use dccp_packets::Frame;
 use dccp_uses::{Due, Pace, Reader, Restraint, due_rule, is_taken, restraint_of};
 use init_cookies::{CookieKeys, FirstRequest, put_request};
+use server_peers::{
+    CookieUse, DatagramKind, Life, Register, Rules, Strangers, answer_spared, asking_of, entry_by,
+    first_given_up, hurried, is_ever_in_use, is_half_open, is_in_use, least_left, opening_of,
+    refuse_stranger, rekeyed, route_of, spare,
+};
 use std::alloc::Global;
 use std::marker::Model;
 
@@ -56,18 +53,18 @@ impl Server {
     ghost use Rattle.std.specs.Prelude.{◌≡◌, ◌≤◌, ◌↔◌, IfOk, IsErr, MatchOption, OnErr, None, Some, if◌then◌else◌, is_some, length, slice_get, true};
     ghost use Rattle.std.specs.Map.{keys_of};
     ghost use Rattle.dccp_listener.specs.Calls.{seen_if};
-    ghost use Rattle.dccp_listener.specs.Chain.{Calls, asked};
-    ghost use Rattle.dccp_listener.specs.Listens.{listens};
+    ghost use Rattle.dccp_listener.specs.Chain.{Calls, asked, config_for};
+    ghost use Rattle.dccp_listener.specs.Listens.{listens, is_table_full};
     ghost use Rattle.dccp_listener.specs.Peers.{end_of_peer};
     ghost use Rattle.dccp_listener.specs.Runs.{Stepped};
     ghost use Rattle.dccp_listener.specs.Standing.{IsListening};
-    ghost use Rattle.dccp_listener.specs.Chain.{config_for};
-    ghost use Rattle.dccp_listener.specs.Listens.{is_table_full};
     ghost use Rattle.dccp_packets.specs.Grammar.{decoded};
-    ghost use Rattle.dccp_server.specs.Lives.{life_of};
-    ghost use Rattle.dccp_server.specs.Meeting.{IsMet, cleared, entry_met, entry_without, flow_at, heard_again, hurrying, is_unproved, maker_of, may_meet, needs_no_flow, received_hurrying, rekeyed, reopened, request_at, returned, unreceived_hurrying, unreopened, user_kept};
-    ghost use Rattle.dccp_server.specs.Places.{peer_after};
-    ghost use Rattle.dccp_server.specs.Refusals.{flow_asked, refused_frame, refused_server, reset_for};
+    ghost use Rattle.server_peers.specs.Lives.{life_of};
+    ghost use Rattle.dccp_server.specs.Meeting.{IsMet, cleared, entry_met, entry_without, flow_at, heard_again, hurrying, is_unproved, maker_of, may_meet, needs_no_flow, received_hurrying, reopened, request_at, returned, unreceived_hurrying, unreopened, user_kept};
+    ghost use Rattle.server_peers.specs.CookieUses.{rekeyed};
+    ghost use Rattle.server_peers.specs.Places.{peer_after};
+    ghost use Rattle.dccp_server.specs.Refusals.{refused_frame, refused_server};
+    ghost use Rattle.server_peers.specs.Refusals.{flow_asked, reset_for};
     ghost use Rattle.dccp_server.specs.Rooms.{HasArrived, IsServed, forgets, is_to_be_heard, received_at, duty_done, duty_due, duty_frame, duty_in, room_does, room_waits, ruled_begins, who_is_over, who_leaves, with_user};
     ghost use Rattle.dccp_server.specs.Serving.{Does, Follows, doing_frame, flow_restraint, flow_restraint_by, upkeep_at};
 

@@ -1,7 +1,6 @@
 //! A listener with the timers of its flows and the rules of their paths.
 ghost use Rattle.std.specs.Prelude.{◌≡◌};
 
-use crate::register::Register;
 use crate::serving::{
     act, arrive, first_due_flow, follow, least_wait, reader_at, spend, upkeep_at,
 };
@@ -10,6 +9,7 @@ use ccid_two::Kinds;
 use dccp_endpoint::{Endpoint, NoMemory, Outbox, Outcome, Seen, Seq48, UserCall};
 use dccp_listener::{Heard, ListenConfig, Listener, NoFlow, Peer};
 use dccp_uses::{Due, Pace, Reader, admit};
+use server_peers::Register;
 use std::alloc::Global;
 use std::marker::Model;
 

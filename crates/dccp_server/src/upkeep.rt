@@ -5,13 +5,13 @@ ghost use Rattle.dccp_uses.specs.Timed.{every_due};
 ghost use Rattle.dccp_server.specs.Upkeeps.{first_due, kept_alarm, kept_closed, kept_heard, kept_on, kept_opened, kept_preferred, kept_ruled, kept_rung, kept_seen, kept_sent, next_upkeep, upkeep_begins, upkeep_moment, earlier, alarm_end, first_end};
 
 use crate::happening::{FlowHappening, HeardDatagram};
-use crate::register::Moment;
 use ccid_two::Kinds;
 use dccp_endpoint::{Endpoint, Timer};
 use dccp_uses::{
     Alarm, Alarms, Due, Pace, Path, Rule, Sight, has_run_out, is_hole, ruled_condition,
     starting_wait,
 };
+use server_peers::Moment;
 
 /// What an owner keeps for a flow's end (own): its timers, and what is known of its path.
 #[derive(Clone, Copy, Debug)]

@@ -5,7 +5,7 @@ use Rattle.data_dropped.specs.declared.answers.Arrival.TheVariants.{Dropped, Kep
 use Rattle.dccp_listener.specs.Peers.{FlowEnd}
 use Rattle.dccp_listener.specs.declared.peer.Peer.{Peer}
 use Rattle.dccp_server.specs.FlowInboxes.{HasFewInboxes, Inboxes, begun_fresh, event_kept, finds_no_place_by, flow_held, flow_most_said, flow_stopped, has_data_by, kind_kept, lacks_place, no_inboxes, tidied_by, with_place, without_inbox_of}
-use Rattle.dccp_server.specs.declared.flow_event.EventKind.TheVariants as kinds
+use Rattle.server_peers.specs.declared.flow_event.EventKind.TheVariants as kinds
 
 -- a peer at an address that ends so
 abbrev at : ℕ → Peer

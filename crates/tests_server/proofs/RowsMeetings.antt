@@ -10,15 +10,17 @@ use Rattle.dccp_sum.specs.declared.pseudo_header.Pseudo.{Pseudo}
 use Rattle.init_cookies.specs.Appending.{appended}
 use Rattle.dccp_uses.specs.ClientCookies.{cookie_kept, returning}
 use Rattle.dccp_server.specs.Due.{never}
-use Rattle.dccp_server.specs.FirstNumbers.{named_ends}
-use Rattle.dccp_server.specs.Meeting.{asking_by, asking_this, entry_by, entry_or, hurried, is_ever_in_use, is_half_open, is_in_use, may_meet, rekeyed}
-use Rattle.dccp_server.specs.Queues.{count_in, first_in, of_class, ticket, ticket_cmp, unqueued}
-use Rattle.dccp_server.specs.Rules.{usual_rules}
-use Rattle.dccp_server.specs.declared.asking.DatagramRequest.TheVariants as asking
-use Rattle.dccp_server.specs.declared.meeting.CookieUse.TheVariants as cookies
-use Rattle.dccp_server.specs.declared.meeting.DatagramKind.TheVariants as entry
+use Rattle.server_peers.specs.FirstNumbers.{named_ends}
+use Rattle.dccp_server.specs.Meeting.{entry_or, may_meet}
+use Rattle.server_peers.specs.CookieUses.{hurried, is_ever_in_use, is_half_open, is_in_use, rekeyed}
+use Rattle.server_peers.specs.Requests.{asking_by, asking_this, entry_by}
+use Rattle.server_peers.specs.Queues.{count_in, first_in, of_class, ticket, ticket_cmp, unqueued}
+use Rattle.server_peers.specs.Rules.{usual_rules}
+use Rattle.server_peers.specs.declared.asking.DatagramRequest.TheVariants as asking
+use Rattle.server_peers.specs.declared.cookie_use.CookieUse.TheVariants as cookies
+use Rattle.server_peers.specs.declared.asking.DatagramKind.TheVariants as entry
 use Rattle.dccp_server.specs.declared.meeting.Way.TheVariants as way
-use Rattle.dccp_server.specs.declared.queue.Ticket.{Ticket}
+use Rattle.server_peers.specs.declared.queue.Ticket.{Ticket}
 
 -- a Request at 1000, with this many bytes of options, and what its cookie holds
 abbrev opening : ℕ → OpeningState

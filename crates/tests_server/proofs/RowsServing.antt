@@ -7,13 +7,13 @@ use Rattle.dccp_states.specs.declared.outcome.Outcome.TheVariants.{SentReset, To
 use Rattle.dccp_states.specs.declared.seen.Seen.TheVariants.{Received}
 use Rattle.dccp_server.specs.FlowDrops.{flow_recorded}
 use Rattle.dccp_server.specs.FlowInboxes.{lies_within}
-use Rattle.dccp_server.specs.Refusals.{reset_by}
-use Rattle.dccp_server.specs.Rules.{answers_to_strangers, class_of, is_none_left, left_since, limit_in, or_else, usual_rules}
+use Rattle.server_peers.specs.Refusals.{reset_by}
+use Rattle.server_peers.specs.Rules.{answers_to_strangers, class_of, is_none_left, left_since, limit_in, or_else, usual_rules}
 use Rattle.dccp_server.specs.Serving.{is_refusal, wait_until}
 use Rattle.dccp_server.specs.Upkeeps.{alarm_end, earlier, on_clock, tells_data, tells_taken}
 use Rattle.dccp_server.specs.declared.flow_drops.FlowDrop.{FlowDrop}
-use Rattle.dccp_server.specs.declared.queue.Ticket.{Ticket}
-use Rattle.dccp_server.specs.declared.stage.Stage.TheVariants as stage
+use Rattle.server_peers.specs.declared.queue.Ticket.{Ticket}
+use Rattle.server_peers.specs.declared.stage.Stage.TheVariants as stage
 
 -- A clock has 64 bits. An alarm that waits for nothing has always run out, and one past the end of the clock never does.
 when_an_alarm_ends :

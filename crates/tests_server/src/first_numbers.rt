@@ -1,7 +1,7 @@
 //! The call that draws the first number of a flow.
 use dccp_endpoint::Seq48;
 use dccp_listener::Peer;
-use dccp_server::keyed_number;
+use server_peers::keyed_number;
 
 // The bytes 0 to 31.
 const KEY: [u8; 32] = [

@@ -1,9 +1,9 @@
 use Rattle.std.proofs.Common.{ap, sym, ◌∙◌, Option}
 use Rattle.std.specs.BTreeMap.{insert_entry}
 use Rattle.dccp_listener.specs.Peers.{FlowEnd, peer_cmp}
-use Rattle.dccp_server.specs.Lives.{lives_on}
-use Rattle.dccp_server.specs.Places.{kept_then}
-use Rattle.dccp_server.specs.declared.life.Life.{Life}
+use Rattle.server_peers.specs.Lives.{lives_on}
+use Rattle.server_peers.specs.Places.{kept_then}
+use Rattle.server_peers.specs.declared.life.Life.{Life}
 use Rattle.dccp_server.proofs.Tying.{place_there_if}
 use Rattle.dccp_server.proofs.lives.go_on.Goals as goal
 

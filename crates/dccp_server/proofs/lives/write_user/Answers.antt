@@ -1,8 +1,8 @@
 use Rattle.std.proofs.Common.{◌≡◌, ap, sym, ◌∙◌, Option}
 use Rattle.std.specs.BTreeMap.{insert_entry}
 use Rattle.dccp_listener.specs.Peers.{FlowEnd, peer_cmp}
-use Rattle.dccp_server.specs.Lives.{user_written}
-use Rattle.dccp_server.specs.declared.life.Life.{Life}
+use Rattle.server_peers.specs.Lives.{user_written}
+use Rattle.server_peers.specs.declared.life.Life.{Life}
 use Rattle.dccp_server.proofs.Tying.{place_there_if}
 use Rattle.dccp_server.proofs.lives.write_user.Goals as goal
 

@@ -5,7 +5,7 @@ use Rattle.init_cookies.specs.Appending.{appended}
 use Rattle.init_cookies.specs.Cookies.{cookie_bytes}
 use Rattle.dccp_sum.specs.Checksum.{reversed}
 use Rattle.init_cookies.specs.declared.route.Route.{Route}
-use Rattle.dccp_server.specs.Meeting.{route_of}
+use Rattle.server_peers.specs.Requests.{route_of}
 use Rattle.dccp_server.proofs.meeting.put_cookie.Goals as goal
 
 pub returns : goal.returns

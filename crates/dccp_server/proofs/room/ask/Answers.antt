@@ -1,6 +1,6 @@
 use Rattle.std.proofs.Common.{ap, ◌∙◌}
 use Rattle.dccp_listener.specs.Chain.{Calls, asked}
-use Rattle.dccp_server.specs.Lives.{signs_of}
+use Rattle.server_peers.specs.Lives.{signs_of}
 use Rattle.dccp_server.specs.Rooms.{as_room, signs_by}
 use Rattle.dccp_server.specs.Serving.{Does}
 use Rattle.dccp_server.proofs.Living.{called_has_life, living_then, room_as}

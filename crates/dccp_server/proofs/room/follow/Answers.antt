@@ -1,4 +1,4 @@
-use Rattle.dccp_server.specs.Lives.{no_signs}
+use Rattle.server_peers.specs.Lives.{no_signs}
 use Rattle.dccp_server.specs.Rooms.{as_room}
 use Rattle.dccp_server.specs.Serving.{Follows}
 use Rattle.dccp_server.proofs.Living.{living_then, room_as, ruled_has_life}

@@ -1,11 +1,11 @@
 use Rattle.std.proofs.Common.{ap, ◌∙◌}
 use Rattle.dccp_listener.specs.Chain.{Arrives}
-use Rattle.dccp_server.specs.Lives.{Lives, signs_of}
+use Rattle.server_peers.specs.Lives.{Lives, signs_of}
 use Rattle.dccp_server.specs.Rooms.{as_room, signs_by}
-use Rattle.dccp_server.specs.Rules.{signs_noted}
+use Rattle.dccp_server.specs.Anew.{signs_noted}
 use Rattle.dccp_server.specs.Serving.{Does, ServedListener}
 use Rattle.dccp_server.proofs.Living.{living_then, living_same, room_placed}
-use Rattle.dccp_server.proofs.Placing.{taken_back}
+use Rattle.server_peers.proofs.Placing.{taken_back}
 use Rattle.dccp_server.proofs.Tying.{has_place}
 use Rattle.dccp_server.proofs.room.hear.Goals as goal
 

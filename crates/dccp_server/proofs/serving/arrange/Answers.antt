@@ -1,7 +1,7 @@
 use Rattle.std.proofs.Common.{ap, sym, ◌∙◌, Option}
 use Rattle.std.specs.BTreeMap.{insert_entry}
 use Rattle.dccp_listener.specs.Peers.{FlowEnd, peer_cmp}
-use Rattle.dccp_server.specs.Places.{kept_then}
+use Rattle.server_peers.specs.Places.{kept_then}
 use Rattle.dccp_server.specs.Upkeeps.{next_upkeep}
 use Rattle.dccp_server.specs.declared.upkeep.Upkeep.{Upkeep}
 use Rattle.dccp_server.proofs.Tying.{place_there_if}

@@ -3,7 +3,7 @@ use Rattle.dccp_listener.specs.Peers.{ListenerState}
 use Rattle.dccp_listener.specs.Runs.{told_of}
 use Rattle.dccp_server.specs.Serving.{Upkeeps, served}
 use Rattle.dccp_server.proofs.Going.{arrival_goes_on}
-use Rattle.dccp_server.proofs.Placing.{taken_back}
+use Rattle.server_peers.proofs.Placing.{taken_back}
 use Rattle.dccp_server.proofs.Tying.{has_place}
 use Rattle.dccp_server.proofs.serving.arrive.Goals as goal
 

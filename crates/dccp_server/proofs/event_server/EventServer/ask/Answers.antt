@@ -1,9 +1,10 @@
 use Rattle.std.proofs.Common.{ap, ◌∙◌, None}
 use Rattle.dccp_listener.specs.Chain.{Calls, asked}
-use Rattle.dccp_server.specs.Events.{WatchedServer, aborted_end, events_between, flow_state}
+use Rattle.dccp_server.specs.Events.{WatchedServer, flow_state}
+use Rattle.server_peers.specs.Events.{aborted_end, events_between}
 use Rattle.dccp_server.specs.Rooms.{room_does}
 use Rattle.dccp_server.specs.Serving.{Does}
-use Rattle.dccp_server.specs.declared.flow_event.EndCause.TheVariants as causes
+use Rattle.server_peers.specs.declared.flow_event.EndCause.TheVariants as causes
 use Rattle.dccp_server.proofs.Telling.{called_as, is_rejoined}
 use Rattle.dccp_server.proofs.event_server.EventServer.ask.Goals as goal
 

@@ -1,7 +1,8 @@
 use Rattle.std.proofs.Common.{rules, None}
-use Rattle.dccp_server.specs.Events.{events_between, flow_state, silent_end}
+use Rattle.dccp_server.specs.Events.{flow_state}
+use Rattle.server_peers.specs.Events.{events_between, silent_end}
 use Rattle.dccp_server.specs.Rooms.{forgets}
-use Rattle.dccp_server.specs.declared.flow_event.EndCause.TheVariants as causes
+use Rattle.server_peers.specs.declared.flow_event.EndCause.TheVariants as causes
 use Rattle.dccp_server.proofs.Telling.{called_as, is_rejoined}
 use Rattle.dccp_server.proofs.event_server.EventServer.forget.Goals as goal
 

@@ -1,6 +1,6 @@
 use Rattle.std.proofs.Common.{ap, ◌∙◌}
 use Rattle.dccp_server.specs.Events.{WatchedServer, ends_old, flow_state, leaver_life, room_maker}
-use Rattle.dccp_server.specs.Rooms.{told_of_arrival}
+use Rattle.server_peers.specs.Strangers.{told_of_arrival}
 use Rattle.dccp_server.proofs.Telling.{heard_as}
 use Rattle.dccp_server.proofs.event_server.EventServer.hear.Goals as goal
 

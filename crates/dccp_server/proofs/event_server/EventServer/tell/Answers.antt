@@ -1,7 +1,8 @@
 use Rattle.std.proofs.Common.{ap, ◌∙◌, Option, None}
-use Rattle.dccp_server.specs.Events.{WatchedServer, events_between, flow_state}
-use Rattle.dccp_server.specs.declared.flow_event.FlowEvents.{FlowEvents}
-use Rattle.dccp_server.specs.declared.flow_event.FlowState.{FlowState}
+use Rattle.dccp_server.specs.Events.{WatchedServer, flow_state}
+use Rattle.server_peers.specs.Events.{events_between}
+use Rattle.server_peers.specs.declared.flow_event.FlowEvents.{FlowEvents}
+use Rattle.server_peers.specs.declared.flow_event.FlowState.{FlowState}
 use Rattle.dccp_server.proofs.event_server.EventServer.tell.Goals as goal
 
 -- what is told is what he sees now, and nothing else has changed

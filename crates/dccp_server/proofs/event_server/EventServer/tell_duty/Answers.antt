@@ -1,9 +1,10 @@
 use Rattle.std.proofs.Common.{ap, sym, ◌∙◌, Option, None}
 use Rattle.dccp_listener.specs.declared.peer.Peer.{Peer}
-use Rattle.dccp_server.specs.Events.{events_between, flow_state, told_of_duty}
+use Rattle.dccp_server.specs.Events.{flow_state, told_of_duty}
+use Rattle.server_peers.specs.Events.{events_between}
 use Rattle.dccp_server.specs.Rooms.{duty_peer}
 use Rattle.dccp_server.specs.declared.duty.Duty.{Duty}
-use Rattle.dccp_server.specs.declared.flow_event.EndReason.{EndReason}
+use Rattle.server_peers.specs.declared.flow_event.EndReason.{EndReason}
 use Rattle.dccp_server.proofs.event_server.EventServer.tell_duty.Goals as goal
 
 -- the owner is told of the peer whose duty it was

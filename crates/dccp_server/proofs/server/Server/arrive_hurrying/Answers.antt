@@ -1,7 +1,8 @@
 use Rattle.std.proofs.Common.{◌≡◌, ap, ◌∙◌}
-use Rattle.dccp_server.specs.Meeting.{going_by, hurried, hurrying}
+use Rattle.dccp_server.specs.Meeting.{going_by, hurrying}
+use Rattle.server_peers.specs.CookieUses.{hurried}
 use Rattle.dccp_server.specs.Rooms.{RuledRoom}
-use Rattle.dccp_server.specs.declared.rules.Rules.{Rules}
+use Rattle.server_peers.specs.declared.rules.Rules.{Rules}
 use Rattle.dccp_server.proofs.Reopening.{hurried_maker, hurried_open, hurried_shut}
 use Rattle.dccp_server.proofs.server.Server.arrive_hurrying.Goals as goal
 

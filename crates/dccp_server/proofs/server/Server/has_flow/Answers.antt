@@ -3,7 +3,7 @@ use Rattle.std.specs.List.{list_any}
 use Rattle.dccp_listener.specs.Peers.{end_of_peer, is_peer}
 use Rattle.dccp_listener.specs.declared.peer.Peer.{Peer}
 use Rattle.dccp_server.specs.Rooms.{RuledRoom}
-use Rattle.dccp_server.proofs.Tying.{found_among}
+use Rattle.server_peers.proofs.Among.{found_among}
 use Rattle.dccp_server.proofs.server.Server.has_flow.Goals as goal
 
 -- who has a life has a flow

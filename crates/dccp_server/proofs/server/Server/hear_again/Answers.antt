@@ -2,7 +2,8 @@ use Rattle.std.proofs.Common.{◌≡◌, ap, ◌∙◌}
 use Rattle.dccp_listener.specs.declared.config.ListenConfig.{ListenConfig}
 use Rattle.init_cookies.specs.Openings.{request_bytes}
 use Rattle.init_cookies.specs.declared.route.Route.{Route}
-use Rattle.dccp_server.specs.Meeting.{request_at, route_of, route_to}
+use Rattle.dccp_server.specs.Meeting.{request_at, route_to}
+use Rattle.server_peers.specs.Requests.{route_of}
 use Rattle.dccp_server.specs.Rooms.{RuledRoom}
 use Rattle.dccp_server.proofs.Reopening.{unopened}
 use Rattle.dccp_server.proofs.server.Server.hear_again.Goals as goal

@@ -1,5 +1,5 @@
 use Rattle.std.proofs.Common.{ap}
-use Rattle.dccp_server.specs.Lives.{Lives}
+use Rattle.server_peers.specs.Lives.{Lives}
 use Rattle.dccp_server.specs.Rooms.{as_room, with_user}
 use Rattle.dccp_server.proofs.Living.{living_same, living_user, user_place}
 use Rattle.dccp_server.proofs.server.Server.set_user.Goals as goal

@@ -1,0 +1,11 @@
+pub mod CookieUses
+pub mod Events
+pub mod FirstNumbers
+pub mod Lives
+pub mod Naming
+pub mod Places
+pub mod Queues
+pub mod Refusals
+pub mod Requests
+pub mod Rules
+pub mod Strangers

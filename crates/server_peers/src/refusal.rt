@@ -1,0 +1,127 @@
+//! How a server turns away, without an end, a datagram that would open a connection.
+ghost use Rattle.std.specs.Prelude.{◌≡◌, ◌≤◌, None, Ok, if◌then◌else◌, is_some, length};
+ghost use Rattle.dccp_endpoint.specs.Incoming.{parts_of_packet};
+ghost use Rattle.dccp_listener.specs.Chain.{config_for};
+ghost use Rattle.dccp_packets.specs.Grammar.{decoded};
+ghost use Rattle.server_peers.specs.Refusals.{opens_by, refusal_frame, reset_by, reset_for, service_opened};
+
+use dccp_endpoint::{Config, Fault, Outbox, Role, Seq48, answer_stranger, put_reset};
+use dccp_listener::{ListenConfig, Peer, config_for};
+use dccp_packets::{Number, Packet, decode};
+
+fn zero() -> Seq48
+    ensures { result ≡ 0 }
+{
+    match Seq48::new(0) {
+        Some(number) => number,
+        None => unreachable!(),
+    }
+}
+
+// Leaves the Reset with this code for a packet of this number.
+fn put_refusal(config: &Config, number: &Number, code: u8, out: &mut Outbox)
+    requires { out.old ≡ None }
+    ensures { out.new ≡ reset_by code config.now number.now }
+{
+    let fault = Fault {
+        code,
+        first: 0,
+        second: 0,
+        third: 0,
+    };
+    match *number {
+        Number::Long(number) => {
+            let _ = put_reset(config, zero(), number, fault, out);
+        }
+        Number::Short(_) => {}
+    }
+}
+
+// The same for a packet. Only the clauses look at its bytes.
+fn refuse_packet(config: &Config, packet: &Packet<'_>, bytes: &[u8], code: u8, out: &mut Outbox)
+    requires empty { out.old ≡ None }
+    requires read { decoded bytes.now ≡ Ok (parts_of_packet packet.now) }
+    ensures { out.new ≡ reset_for code config.now (decoded bytes.now) }
+{
+    let _ = bytes;
+    put_refusal(config, &packet.header.number, code, out);
+}
+
+// Turns a packet away. Returns whether it would have opened a connection.
+fn turn_away(config: &Config, packet: &Packet<'_>, bytes: &[u8], code: u8, out: &mut Outbox) -> bool
+    requires server { config.now.role ≡ Role.Server }
+    requires empty { out.old ≡ None }
+    requires short { length bytes.now ≤ 2044 }
+    requires read { decoded bytes.now ≡ Ok (parts_of_packet packet.now) }
+    requires options { length packet.now.options.now ≤ 1008 }
+    ensures sent { out.new ≡ refusal_frame code config.now bytes.now }
+    ensures opens { result ≡ opens_by config.now bytes.now }
+{
+    if answer_stranger(config, packet, bytes, out).is_some() {
+        return false;
+    }
+    refuse_packet(config, packet, bytes, code, out);
+    true
+}
+
+/// Turns a datagram of at most 2,044 bytes away. It is answered as a server's end of this configuration that has
+/// received nothing would answer it, except that a Reset with this code answers one that would open a connection there
+/// (own; RFC 4340, sections 5.6 and 8.3.1). Returns whether it would. It takes no memory.
+#[tactic(auto, unfolding(dccp_endpoint::specs::Receiving::receives))]
+pub fn refuse(config: &Config, bytes: &[u8], code: u8, out: &mut Outbox) -> bool
+    requires server { config.now.role ≡ Role.Server }
+    requires empty { out.old ≡ None }
+    requires short { length bytes.now ≤ 2044 }
+    ensures sent { out.new ≡ refusal_frame code config.now bytes.now }
+    ensures opens { result ≡ opens_by config.now bytes.now }
+{
+    match decode(bytes) {
+        Ok(packet) => turn_away(config, &packet, bytes, code, out),
+        Err(_) => false,
+    }
+}
+
+// The same for a packet of a peer without a flow: nothing goes out if it opens none.
+fn refuse_flow(
+    config: &ListenConfig,
+    peer: Peer,
+    packet: &Packet<'_>,
+    bytes: &[u8],
+    code: u8,
+    out: &mut Outbox,
+) -> Option<u32>
+    requires empty { out.old ≡ None }
+    requires short { length bytes.now ≤ 2044 }
+    requires read { decoded bytes.now ≡ Ok (parts_of_packet packet.now) }
+    requires options { length packet.now.options.now ≤ 1008 }
+    ensures sent { out.new ≡ (if is_some result then reset_for code (config_for config.now peer 0 bytes.now) (decoded bytes.now) else None) }
+    ensures service { result ≡ service_opened (config_for config.now peer 0 bytes.now) bytes.now }
+{
+    let own = config_for(config, peer, zero(), packet, bytes);
+    if turn_away(&own, packet, bytes, code, out) {
+        return Some(own.service);
+    }
+    out.clear();
+    None
+}
+
+/// Refuses a datagram of a peer without a flow by a Reset with this code, and returns the Service Code of the flow that
+/// it would have opened. Nothing goes out if it opens none.
+#[tactic(auto, unfolding(dccp_endpoint::specs::Receiving::receives))]
+pub fn refuse_stranger(
+    config: &ListenConfig,
+    peer: Peer,
+    bytes: &[u8],
+    code: u8,
+    out: &mut Outbox,
+) -> Option<u32>
+    requires { length bytes.now ≤ 2044 }
+    ensures sent { out.new ≡ (if is_some result then reset_for code (config_for config.now peer 0 bytes.now) (decoded bytes.now) else None) }
+    ensures service { result ≡ service_opened (config_for config.now peer 0 bytes.now) bytes.now }
+{
+    out.clear();
+    match decode(bytes) {
+        Ok(packet) => refuse_flow(config, peer, &packet, bytes, code, out),
+        Err(_) => None,
+    }
+}

@@ -1,0 +1,244 @@
+//! What is kept of each peer that has a flow, and the order in which something is due for it.
+ghost use Rattle.std.specs.Prelude.{◌≡◌, IsSome};
+ghost use Rattle.std.specs.Map.{lookup, set_value};
+ghost use Rattle.dccp_listener.specs.Peers.{is_peer};
+ghost use Rattle.server_peers.specs.Places.{IsAtHand};
+ghost use Rattle.server_peers.specs.Queues.{moment_if};
+
+use crate::queue::{Ticket, count_in, first_in, is_one_moment, requeue};
+use dccp_endpoint::NoMemory;
+use dccp_listener::Peer;
+use std::alloc::Global;
+use std::cmp::Ordering;
+use std::collections::BTreeMap;
+use std::marker::Model;
+use std::ops::Bound;
+
+/// Something that is kept of a peer. It is due at a moment, which is a class and a time, or at none.
+pub trait Moment: Copy {
+    ghost use Rattle.std.specs.Prelude.{◌≡◌, ℕ, Option};
+
+    ghost moment_of: { Self → Option (ℕ × ℕ) };
+
+    /// The class, and the time in milliseconds.
+    fn moment(&self) -> Option<(u8, u64)>
+        ensures { result ≡ moment_of self.now };
+}
+
+/// What is kept of each peer that has a flow. Contracts see it as a list, in the order of peers.
+#[derive(Drop)]
+pub struct Register<V: Moment> {
+    entries: BTreeMap<Peer, V>,
+    tickets: Vec<Ticket>,
+    /// What is kept of the last peer, so that a call that looks at it several times searches once.
+    at_hand: Option<(Peer, V)>,
+}
+
+impl<V: Moment> Model for Register<V> {
+    ghost use Rattle.std.specs.Prelude.{List, vec_capacity};
+    ghost use Rattle.dccp_listener.specs.declared.peer.Peer.{Peer};
+    ghost use Rattle.server_peers.specs.Places.{IsAtHand};
+    ghost use Rattle.server_peers.specs.Queues.{IsQueued};
+
+    ghost Value = { List (Peer × V) };
+
+    ghost view = { λ r. r.entries.entries };
+
+    ghost invariant = { λ r. IsQueued V.moment_of r.entries.entries r.tickets.items (vec_capacity r.tickets) × IsAtHand r.at_hand r.entries.entries };
+}
+
+// What is kept of a peer, with the peer.
+fn entry_of<V: Moment>(entries: &BTreeMap<Peer, V>, peer: Peer) -> Option<(Peer, V)>
+    ensures { IsAtHand result entries.now.entries }
+{
+    match entries.get(&peer) {
+        Some(value) => Some((peer, *value)),
+        None => None,
+    }
+}
+
+// Writes over what is kept of a peer, and returns the moment at which that was due.
+fn write_over<V: Moment>(
+    entries: &mut BTreeMap<Peer, V>,
+    peer: Peer,
+    value: &V,
+) -> Option<(u8, u64)>
+    requires { IsSome (lookup (is_peer peer) entries.old.entries) }
+    ensures written { entries.new.entries ≡ set_value (is_peer peer) entries.old.entries value.now }
+    ensures was { result ≡ moment_if V.moment_of (lookup (is_peer peer) entries.old.entries) }
+{
+    match entries.get_mut(&peer) {
+        Some(place) => {
+            let was = place.moment();
+            *place = *value;
+            was
+        }
+        // The peer has a place.
+        None => unreachable!(),
+    }
+}
+
+/// Whether two peers are the same.
+pub fn is_peer(one: Peer, other: Peer) -> bool
+    ensures { result ≡ is_peer one other }
+{
+    matches!(one.cmp(&other), Ordering::Equal)
+}
+
+impl<V: Moment> Register<V> {
+    ghost use Rattle.std.specs.Prelude.{◌≡◌, [], None, Some, MatchOption, IfOk, IfSome, OnOk, OnErr, IsSome, is_some, length, slice_get, if◌then◌else◌};
+    ghost use Rattle.std.specs.BTreeMap.{insert_entry};
+    ghost use Rattle.std.specs.Map.{keys_of, lookup, remove_entry};
+    ghost use Rattle.dccp_listener.specs.Peers.{is_peer, peer_cmp};
+    ghost use Rattle.server_peers.specs.Places.{IsPlaced, peer_after};
+    ghost use Rattle.server_peers.specs.Queues.{count_in, first_in, queue_of};
+
+    /// Nothing is kept. It takes no memory.
+    pub fn new(alloc: Global) -> Register<V>
+        ensures { result ≡ [] }
+    {
+        Register {
+            entries: BTreeMap::new(alloc),
+            tickets: Vec::new(alloc),
+            at_hand: None,
+        }
+    }
+
+    /// What is kept of a peer is at hand from now on, and found without a search.
+    pub fn seek(&mut self, peer: Peer)
+        ensures { self.new ≡ self.old }
+    {
+        self.at_hand = entry_of(&self.entries, peer);
+    }
+
+    // What is kept of a peer, if it is at hand.
+    fn value_at_hand(&self, peer: Peer) -> Option<&V>
+        ensures { IfSome result (λ value. lookup (is_peer peer) self.now ≡ Some value.now) }
+    {
+        match &self.at_hand {
+            Some((last, value)) => {
+                if is_peer(*last, peer) {
+                    Some(value)
+                } else {
+                    None
+                }
+            }
+            None => None,
+        }
+    }
+
+    /// What is kept of a peer, if something is.
+    pub fn get(&self, peer: Peer) -> Option<&V>
+        ensures { MatchOption result (lookup (is_peer peer) self.now ≡ None) (λ value. lookup (is_peer peer) self.now ≡ Some value.now) }
+    {
+        match self.value_at_hand(peer) {
+            Some(value) => Some(value),
+            None => self.entries.get(&peer),
+        }
+    }
+
+    /// Whether something is kept of a peer.
+    pub fn has(&self, peer: Peer) -> bool
+        ensures { result ≡ is_some (lookup (is_peer peer) self.now) }
+    {
+        self.get(peer).is_some()
+    }
+
+    /// The peer has a place from now on. Returns whether it had one before.
+    pub fn place_for(&mut self, peer: Peer, fresh: V) -> Result<bool, NoMemory>
+        ensures placed { IfOk result (λ had. IsPlaced fresh had self.old self.new peer) }
+        ensures there { OnOk result (IsSome (lookup (is_peer peer) self.new)) }
+        ensures unchanged { OnErr result (self.new ≡ self.old) }
+        ensures absent { OnErr result (lookup (is_peer peer) self.old ≡ None) }
+    {
+        if self.has(peer) {
+            return Ok(true);
+        }
+        let more = (self.entries.len() + 2).saturating_sub(self.tickets.len());
+        let Ok(()) = self.tickets.try_reserve(more) else {
+            return Err(NoMemory);
+        };
+        self.at_hand = None;
+        match self.entries.insert(peer, fresh) {
+            Ok(_) => {
+                requeue(&mut self.tickets, peer, None, fresh.moment());
+                Ok(false)
+            }
+            Err(_) => Err(NoMemory),
+        }
+    }
+
+    /// Removes the peer's place again, unless it had one before.
+    pub fn take_back(&mut self, peer: Peer, had: bool)
+        ensures { self.new ≡ (if had then self.old else remove_entry (is_peer peer) self.old) }
+    {
+        if !had {
+            self.remove(peer);
+        }
+    }
+
+    /// Puts this into the peer's place, which it has.
+    pub fn put(&mut self, peer: Peer, value: &V)
+        requires { IsSome (lookup (is_peer peer) self.old) }
+        ensures { self.new ≡ insert_entry peer_cmp self.old peer value.now }
+    {
+        let from = write_over(&mut self.entries, peer, value);
+        let to = value.moment();
+        self.at_hand = Some((peer, *value));
+        if !is_one_moment(from, to) {
+            requeue(&mut self.tickets, peer, from, to);
+        }
+    }
+
+    /// Removes the peer's place, if it has one.
+    pub fn remove(&mut self, peer: Peer)
+        ensures { self.new ≡ remove_entry (is_peer peer) self.old }
+    {
+        self.at_hand = None;
+        if let Some(was) = self.entries.remove(&peer) {
+            requeue(&mut self.tickets, peer, was.moment(), None);
+        }
+    }
+
+    /// The first peer of which something is kept.
+    pub fn first_peer(&self) -> Option<Peer>
+        ensures { result ≡ slice_get (keys_of self.now) 0 }
+    {
+        match self.entries.first_key_value() {
+            Some((peer, _)) => Some(*peer),
+            None => None,
+        }
+    }
+
+    /// The first one after this.
+    pub fn peer_after(&self, peer: Peer) -> Option<Peer>
+        ensures { result ≡ peer_after peer (keys_of self.now) }
+    {
+        let later = (Bound::Excluded(peer), Bound::Unbounded);
+        match self.entries.range(later).next() {
+            Some((next, _)) => Some(*next),
+            None => None,
+        }
+    }
+
+    /// For how many peers something is kept.
+    pub fn len(&self) -> usize
+        ensures { result ≡ length self.now }
+    {
+        self.entries.len()
+    }
+
+    /// The first ticket of a class.
+    pub fn first_in(&self, class: u8) -> Option<Ticket>
+        ensures { result ≡ first_in class (queue_of V.moment_of self.now) }
+    {
+        first_in(self.tickets.as_slice(), class)
+    }
+
+    /// How many tickets of a class there are.
+    pub fn count_in(&self, class: u8) -> usize
+        ensures { result ≡ count_in class (queue_of V.moment_of self.now) }
+    {
+        count_in(self.tickets.as_slice(), class)
+    }
+}
