@@ -11,7 +11,7 @@ use Rattle.dccp_states.specs.declared.outcome.Outcome.{Outcome}
 use Rattle.seq_circle.specs.declared.memory.NoMemory.{NoMemory}
 use Rattle.dccp_states.specs.declared.seen.Seen.TheVariants.{Received}
 use Rattle.server_peers.specs.Lives.{life_of, signs_in}
-use Rattle.dccp_server.specs.Rooms.{RoomStep, HasArrived, HasHeard, IsJudged, IsRoomMade, Room, begun_anew, comes_by, comes_heard, comes_if, counted_room, forgets, heard_or_fault, heard_plainly, is_to_be_heard, left_out, left_without_memory, room_does, room_made, unless_fault, who_leaves}
+use Rattle.dccp_server.specs.Rooms.{RoomStep, HasArrived, HasHeard, IsJudged, IsRoomMade, Room, begun_anew, comes_by, comes_heard, comes_if, counted_room, forgets, heard_or_fault, heard_plainly, is_to_be_heard, left_without_memory, room_does, room_made, unless_fault, who_leaves}
 use Rattle.dccp_server.specs.Serving.{Does}
 use Rattle.dccp_server.specs.Anew.{begins_anew}
 use Rattle.server_peers.specs.declared.life.Life.{Life}
@@ -120,13 +120,7 @@ module _ (now : ℕ) (rules : Rules) (r : Room) (peer : Peer) (iss : ℕ) (bytes
       (subst (λ (x : Option Peer). HasHeard now rules r after peer iss bytes frame (Ok (heard.Flow outcome)) x anew) (sym is.3)
       (arrived_flow between after left frame outcome life (signs_in outcome) anew does sent told life-is refl is.0 is.1 is.2))
 
-  -- a datagram that is left out
-  pub left_out_as : (after : Room) → after ≡ counted_room now rules r peer bytes → false ≡ is_to_be_heard now rules r peer bytes
-      → HasArrived now rules r after peer iss bytes None (Ok None) None false
-  left_out_as after is heard =
-      ap (λ (x : Room). left_out x) is ∙ ap (λ (b : Bool). comes_if now rules (counted_room now rules r peer bytes) peer iss bytes b) heard
-
-  -- and one that is heard
+  -- a datagram that is heard
   come-by : (upkeep_counted after : Room) (left : Option Outgoing) (result : Result Heard NoMemory) (evicted : Option Peer) (anew : Bool)
       → upkeep_counted ≡ counted_room now rules r peer bytes → true ≡ is_to_be_heard now rules r peer bytes
       → HasHeard now rules upkeep_counted after peer iss bytes left result evicted anew
