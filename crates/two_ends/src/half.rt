@@ -43,23 +43,27 @@ impl<C: Congestion + Drop> HalfWorld<C> {
     ghost use Rattle.std.specs.Prelude.{◌≡◌, IfOk, IsTrue};
     ghost use Rattle.two_ends.specs.Controlled.{half_begins};
 
+    // A side before it has sent or received anything, in its block.
     pub(crate) fn new(
         alloc: Global,
         config: Config,
         congestion: C,
-    ) -> Result<HalfWorld<C>, NoMemory>
+    ) -> Result<Box<HalfWorld<C>>, NoMemory>
         requires { IsTrue (C.control.is_known 2) }
-        ensures { IfOk result (λ half. half ≡ half_begins C.control config congestion) }
+        ensures { IfOk result (λ half. half.value ≡ half_begins C.control config congestion) }
     {
-        let end = Endpoint::new(alloc, config, congestion)?;
-        Ok(HalfWorld {
+        let half = HalfWorld {
             alloc,
-            end,
+            end: Endpoint::new(alloc, config, congestion)?,
             frames: Vec::new(alloc),
             processed: Vec::new(alloc),
             spare: Vec::new(alloc),
             out: Outbox::new(),
-        })
+        };
+        match Box::new(alloc, half) {
+            Ok(half) => Ok(half),
+            Err(_) => Err(NoMemory),
+        }
     }
 }
 

@@ -1,7 +1,7 @@
 //! The two sides together, and exactly what an event does to them.
 ghost use Rattle.std.specs.Prelude.{◌≡◌, ◌≢◌, ◌↔◌, Ok, Err, Some, None, IfOk, IfSome, IsTrue, OnErr, true, false, is_some, slice_get};
 ghost use Rattle.dccp_endpoint.specs.Inputs.{Arrives};
-ghost use Rattle.two_ends.specs.Controlled.{controlled_half_steps, half_begins, said_by};
+ghost use Rattle.two_ends.specs.Controlled.{controlled_half_steps, said_by};
 ghost use Rattle.two_ends.specs.World.{is_far_at, is_far_frame, is_full, input_said};
 
 use crate::far::is_far_frame;
@@ -45,8 +45,8 @@ impl<C: Congestion + Drop> Sides<C> {
         requires { IsTrue (C.control.is_known 2) }
         ensures { IfOk result (λ sides. sides ≡ begins_with C.control client server for_client for_server) }
     {
-        let client = begin_side(alloc, client, for_client)?;
-        let server = begin_side(alloc, server, for_server)?;
+        let client = HalfWorld::new(alloc, client, for_client)?;
+        let server = HalfWorld::new(alloc, server, for_server)?;
         Ok(Sides { client, server })
     }
 }
@@ -132,22 +132,6 @@ impl<C: Congestion> Sides<C> {
             Side::Client => call_half(&mut self.client, call),
             Side::Server => call_half(&mut self.server, call),
         }
-    }
-}
-
-// A side before it has sent or received anything, in its block.
-fn begin_side<C: Congestion + Drop>(
-    alloc: Global,
-    config: Config,
-    congestion: C,
-) -> Result<Box<HalfWorld<C>>, NoMemory>
-    requires { IsTrue (C.control.is_known 2) }
-    ensures { IfOk result (λ side. side.value ≡ half_begins C.control config congestion) }
-{
-    let half = HalfWorld::new(alloc, config, congestion)?;
-    match Box::new(alloc, half) {
-        Ok(side) => Ok(side),
-        Err(_) => Err(NoMemory),
     }
 }
 
