@@ -3,20 +3,21 @@ use dccp_packets::{Packet, PacketType};
 use seq_circle::Seq48;
 use std::marker::Model;
 
-// What an end has to know of a packet of its connection, with its numbers in full.
+// What an end has to know of a packet of its connection, with its numbers in full. Small fields come first, since a gap
+// would be copied too.
 #[derive(Drop)]
 pub(crate) struct IncomingPacket<'a> {
     pub(crate) kind: PacketType,
-    pub(crate) number: Seq48,
-    pub(crate) ack: Option<Seq48>,
-    pub(crate) service: Option<u32>,
     // of a Reset, else 0
     pub(crate) code: u8,
+    // no number was received before it, or none as great
+    pub(crate) newest: bool,
+    pub(crate) service: Option<u32>,
+    pub(crate) number: Seq48,
+    pub(crate) ack: Option<Seq48>,
     pub(crate) options: &'a [u8],
     // in the input, the first place and the one past the last
     pub(crate) data_place: (usize, usize),
-    // no number was received before it, or none as great
-    pub(crate) newest: bool,
 }
 
 impl<'a> Model for IncomingPacket<'a> {
