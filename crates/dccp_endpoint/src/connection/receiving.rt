@@ -323,14 +323,25 @@ impl Connection {
         ensures config { self.new.config ≡ self.old.config }
         ensures rows { self.new.rows ≡ self.old.rows }
     {
-        match (packet.kind, self.acknowledges_in_window(packet)) {
-            (PacketType::Reset, true) => Ok(()),
-            (PacketType::Reset, false) => Err(Exit::Drop(Why::StrayReset)),
-            (_, true) => {
+        let acknowledges = self.acknowledges_in_window(packet);
+        match packet.kind {
+            PacketType::Reset if acknowledges => Ok(()),
+            PacketType::Reset => Err(Exit::Drop(Why::StrayReset)),
+            PacketType::Request
+            | PacketType::Response
+            | PacketType::Data
+            | PacketType::Ack
+            | PacketType::DataAck
+            | PacketType::CloseReq
+            | PacketType::Close
+            | PacketType::Sync
+            | PacketType::SyncAck => {
+                if !acknowledges {
+                    return Err(Exit::PacketError);
+                }
                 self.start(self.phase, packet);
                 Ok(())
             }
-            (_, false) => Err(Exit::PacketError),
         }
     }
 
@@ -366,8 +377,19 @@ impl Connection {
         ensures config { self.new.config ≡ self.old.config }
         ensures rows { self.new.rows ≡ self.old.rows }
     {
-        if packet.kind != PacketType::Reset {
-            self.marks.take(packet.kind, packet.number, packet.ack);
+        match packet.kind {
+            PacketType::Reset => {}
+            PacketType::Request
+            | PacketType::Response
+            | PacketType::Data
+            | PacketType::Ack
+            | PacketType::DataAck
+            | PacketType::CloseReq
+            | PacketType::Close
+            | PacketType::Sync
+            | PacketType::SyncAck => {
+                self.marks.take(packet.kind, packet.number, packet.ack);
+            }
         }
     }
 
