@@ -11,4 +11,6 @@ mod marks;
 #[cfg(test)]
 mod once;
 #[cfg(test)]
+mod rows;
+#[cfg(test)]
 mod streams;

@@ -1,5 +1,5 @@
 //! Calls of a single inbox: what a report of drops has. Other lists of calls are worked rows of
-//! proofs/RowsInboxes.antt.
+//! proofs/rows/RowsInboxes.antt.
 use data_dropped::{Arrival, DropBytes, Inbox};
 use seq_circle::Seq48;
 use std::test::Fail;

@@ -24,6 +24,8 @@ mod repeated;
 #[cfg(test)]
 mod rooms;
 #[cfg(test)]
+mod rows;
+#[cfg(test)]
 mod shortened;
 #[cfg(test)]
 mod uses;

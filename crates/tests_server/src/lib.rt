@@ -6,3 +6,5 @@
 mod first_numbers;
 #[cfg(test)]
 mod greetings;
+#[cfg(test)]
+mod rows;

@@ -21,6 +21,8 @@ mod gates;
 #[cfg(test)]
 mod pieces;
 #[cfg(test)]
+mod rows;
+#[cfg(test)]
 mod schedules;
 #[cfg(test)]
 mod seeds;

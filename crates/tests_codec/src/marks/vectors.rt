@@ -1,6 +1,6 @@
 //! Calls about received numbers: marks, Ack Vectors and the records that raise the floor. The lists are those of the
-//! worked rows of proofs/RowsReceived.antt with every number taken; the bytes follow by hand from the coding of RFC
-//! 4340, section 11.4.
+//! worked rows of proofs/rows/RowsReceived.antt with every number taken; the bytes follow by hand from the coding of
+//! RFC 4340, section 11.4.
 use crate::marks::calls::{CallTarget, all_come};
 use ack_vectors::{Received, VectorBytes, Vectors};
 use run_list::Marked;
