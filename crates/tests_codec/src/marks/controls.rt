@@ -2,7 +2,7 @@
 //! a single flight list. The values are worked out by hand from RFC 4341, section 5.
 use crate::marks::calls::{CallTarget, all_come};
 use ccid_two::{Ccid2, Kinds};
-use congestion_trait::{Congestion, FixedWindow, Flight, FlightNews, Standing};
+use congestion_trait::{Congestion, FixedWindow, Flight, Standing};
 use dccp_options::{AckReport, options};
 use seq_circle::Seq48;
 use std::test::Fail;
@@ -188,26 +188,27 @@ fn kinds_by_calls(rt: HostRuntime) -> Result<(), Fail> {
     all_come(&mut Kinds::new(rt.alloc())?, "both", &OF_KINDS)
 }
 
-// Whether the last three of four sent numbers are acknowledged, so that the first is lost.
-fn loses_the_first(flight: &mut Flight, first: Seq48) -> Option<bool> {
+// Whether all of four sent numbers are out.
+fn sends_four(flight: &mut Flight, first: Seq48) -> bool {
     for ahead in 0..4 {
         flight.sent(first.add(ahead));
     }
-    let all_out = flight.out() == 4 && flight.stands(first, Standing::Out);
+    flight.out() == 4 && flight.stands(first, Standing::Out)
+}
+
+// Whether the last three of them are acknowledged, so that the first is lost.
+fn loses_the_first(flight: &mut Flight, first: Seq48) -> Option<bool> {
     let report = AckReport::of(first.add(3), options(&[38, 3, 0x02], false))?;
     let news = flight.report(&report, None);
-    let wanted = FlightNews {
-        acked: 3,
-        congested: true,
-    };
     let settled = flight.stands(first, Standing::Lost) && flight.is_reported(first.add(1));
-    Some(all_out && news == wanted && flight.out() == 0 && settled)
+    Some(news.acked == 3 && news.congested && flight.out() == 0 && settled)
 }
 
 #[test]
 fn a_flight_by_calls(rt: HostRuntime) -> Result<(), Fail> {
     let first = Seq48::new(281_474_976_710_654).ok_or("a number")?;
     let mut flight = Flight::new(rt.alloc())?;
+    assert!(rt; sends_four(&mut flight, first));
     assert_eq!(rt; loses_the_first(&mut flight, first), Some(true));
     Ok(())
 }

@@ -7,24 +7,22 @@ use seq_circle::Seq48;
 use std::test::Fail;
 
 // Whether the vector of one packet with nonce 1 fits the ledger of it.
-fn fits(received: &mut EcnReceived, number: Seq48) -> bool {
+fn fits(received: &mut EcnReceived) -> Option<bool> {
+    let number = Seq48::new(1)?;
     received.start(number);
     let _answer = received.took(number, Arrived::Nonce(true));
     let mut out = VectorBytes::new();
     let vector = received.write(&mut out, received.floor());
     let mut ledger = NonceLedger::new(number);
     let sent = ledger.sent(true);
-    ledger.check(sent, vector.kind, out.as_slice()) == Check::Fits
+    Some(ledger.check(sent, vector.kind, out.as_slice()) == Check::Fits)
 }
 
 #[test]
 fn nonces_run(rt: HostRuntime) -> Result<(), Fail> {
-    let number = Seq48::new(1).ok_or("no number")?;
-    let mut received = EcnReceived::new(rt.alloc()).ok().ok_or("no memory")?;
-    if fits(&mut received, number) {
-        return Ok(());
-    }
-    Err(Fail::new(format_args!("the vector does not fit")))
+    let mut received = EcnReceived::new(rt.alloc())?;
+    assert_eq!(rt; fits(&mut received), Some(true));
+    Ok(())
 }
 
 // What may happen, and what is seen of it: packets with nonces 1, 0 and 1, where the second comes marked and the third
@@ -46,9 +44,13 @@ const STORY: [(EcnEvent, Result<EcnSeen, EcnFault>); 14] = [
     (EcnEvent::Forge(1), Err(EcnFault::NoSuchFrame)),
 ];
 
+fn comes(world: &mut EcnWorld, event: EcnEvent, seen: Result<EcnSeen, EcnFault>) -> bool {
+    world.step(event) == seen
+}
+
 fn plays(world: &mut EcnWorld) -> Result<(), Fail> {
     for (place, (event, seen)) in STORY.iter().enumerate() {
-        if world.step(*event) != *seen {
+        if !comes(world, *event, *seen) {
             return Err(Fail::new(format_args!("event {place}")));
         }
     }
@@ -57,7 +59,7 @@ fn plays(world: &mut EcnWorld) -> Result<(), Fail> {
 
 #[test]
 fn a_world_of_nonces(rt: HostRuntime) -> Result<(), Fail> {
-    let mut world = EcnWorld::new(rt.alloc()).ok().ok_or("no memory")?;
+    let mut world = EcnWorld::new(rt.alloc())?;
     plays(&mut world)?;
     assert_eq!(rt; (world.packet_count(), world.report_count()), (3, 1));
     Ok(())

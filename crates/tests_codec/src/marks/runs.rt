@@ -4,9 +4,10 @@
 //! A word is `start`, `mark` or `raise` with a number. After the number there may be a step up or down and how many
 //! such calls there are: `mark=0+2*1024` marks every second number from 0 to 2,046. Each mark is made twice, which
 //! changes nothing.
-use run_list::{PlainRuns, RunCall, RunList, Runs, Stretch, replay_runs};
+use run_list::{PlainRuns, RunCall, RunList, Runs, replay_runs};
 use seq_circle::Seq48;
 use std::test::Fail;
+use tool_text::number_up_to;
 
 // Each list, how many marks are New, and the floor in the end.
 const LISTS: [(&str, u32, u64); 41] = [
@@ -119,15 +120,22 @@ struct Steps {
     first: Seq48,
     up: bool,
     by: u64,
-    times: u32,
+    times: u64,
+}
+
+fn number_of(text: &str) -> Option<u64> {
+    number_up_to(u64::MAX, text.as_bytes())
 }
 
 fn steps_of(first: &str, up: bool, by: &str, times: &str) -> Option<Steps> {
+    let first = Seq48::new(number_of(first)?)?;
+    let by = number_of(by)?;
+    let times = number_of(times)?;
     Some(Steps {
-        first: Seq48::new(first.parse().ok()?)?,
+        first,
         up,
-        by: by.parse().ok()?,
-        times: times.parse().ok()?,
+        by,
+        times,
     })
 }
 
@@ -189,23 +197,23 @@ fn all_come<R: Runs>(set: &mut R) -> Result<(), Fail> {
     Ok(())
 }
 
-// The last mark, 2, joins the runs on both sides of it.
+// Whether the last mark, 2, joins the runs on both sides of it.
+fn joins(set: &mut RunList) -> Option<()> {
+    set.start(Seq48::new(0)?);
+    let marked = make_all(set, "mark=1 mark=3 mark=2")?;
+    let run = set.walk().next()?;
+    (marked == 3 && run.hi.get() == 3 && run.count == 3).then_some(())
+}
+
 #[test]
 fn full_linked_sets(rt: HostRuntime) -> Result<(), Fail> {
-    let mut set = RunList::new(rt.alloc()).ok().ok_or("no memory")?;
+    let mut set = RunList::new(rt.alloc())?;
     all_come(&mut set)?;
-    set.start(Seq48::new(0).ok_or("zero")?);
-    let run = Stretch {
-        hi: Seq48::new(3).ok_or("a number")?,
-        count: 3,
-    };
-    assert_eq!(rt; make_all(&mut set, "mark=1 mark=3 mark=2"), Some(3));
-    assert_eq!(rt; set.walk().next(), Some(run));
-    Ok(())
+    Ok(joins(&mut set).ok_or("joined runs")?)
 }
 
 #[test]
 fn full_plain_sets(rt: HostRuntime) -> Result<(), Fail> {
-    let mut set = PlainRuns::new(rt.alloc()).ok().ok_or("no memory")?;
+    let mut set = PlainRuns::new(rt.alloc())?;
     all_come(&mut set)
 }

@@ -116,7 +116,7 @@ impl CallTarget<Call> for Received {
 
 // Makes these calls of a new set, one after another.
 fn play(alloc: Global, name: &str, calls: &[Call]) -> Result<(), Fail> {
-    let mut received = Received::new(alloc).ok().ok_or("no memory")?;
+    let mut received = Received::new(alloc)?;
     all_come(&mut received, name, calls)
 }
 

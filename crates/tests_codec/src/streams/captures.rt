@@ -32,8 +32,8 @@ const BEGUN: [u8; 46] =
 \x01\x00\x00\x00\x20\xa1\x07\x00\x28\x00\x00\x00\x28\x00\x00\x00\x45\x00\x00\x28\x00\x01";
 
 fn fails_again(captures: &mut Captures<MemorySource>) -> bool {
-    let first = captures.next().err() == Some(CaptureFault::ReadFault);
-    let again = captures.next().err() == Some(CaptureFault::ReadFault);
+    let first = matches!(captures.next(), Err(CaptureFault::ReadFault));
+    let again = matches!(captures.next(), Err(CaptureFault::ReadFault));
     first && again && captures.holds_next()
 }
 

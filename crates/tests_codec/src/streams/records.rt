@@ -12,8 +12,8 @@ const DATA: [u8; 32] = [
 const TEXT: &[u8] =
     b"before 18446744073709551615 4294967295.999999 flow 1 10.0.0.1 1 > 10.0.0.2 1 Data seq 0 data 0 sum ok\n";
 
-fn show(flows: &mut Flows, link: u32, text: &mut Vec<u8>) -> Option<Shown> {
-    let record = Record {
+fn record(link: u32) -> Record<'static> {
+    Record {
         number: u64::MAX,
         seconds: u32::MAX,
         fraction: 999_999,
@@ -21,14 +21,13 @@ fn show(flows: &mut Flows, link: u32, text: &mut Vec<u8>) -> Option<Shown> {
         link,
         original: 1500,
         bytes: &DATA,
-    };
-    flows.show(&record, text).ok()
+    }
 }
 
 // The text of a record of raw IP, that of a record with another link type, and how many flows there are.
 fn shown(flows: &mut Flows, text: &mut Vec<u8>) -> Option<u64> {
-    let lines = show(flows, 101, text) == Some(Shown::Line);
-    let skips = show(flows, 113, text) == Some(Shown::Skipped);
+    let lines = matches!(flows.show(&record(101), text), Ok(Shown::Line));
+    let skips = matches!(flows.show(&record(113), text), Ok(Shown::Skipped));
     if lines && skips {
         Some(flows.count())
     } else {

@@ -188,19 +188,19 @@ fn reads_ahead(ahead: &mut ReadAhead, source: &mut MemorySource) -> bool
     requires size { ahead.old.size ≡ 4 }
     requires none { ahead.old.pending ≡ [] }
 {
-    if ahead.refill(source) != Ok(3) || ahead.len() != 3 {
+    if !matches!(ahead.refill(source), Ok(3)) || ahead.len() != 3 {
         return false;
     }
-    if ahead.refill(source) != Ok(1) || ahead.len() != 4 {
+    if !matches!(ahead.refill(source), Ok(1)) || ahead.len() != 4 {
         return false;
     }
     ahead.pass(3);
-    if ahead.refill(source) != Ok(3) || ahead.len() != 4 {
+    if !matches!(ahead.refill(source), Ok(3)) || ahead.len() != 4 {
         return false;
     }
     let is_moved = ahead.pending() == b"lo t".as_slice();
     ahead.pass(3);
-    is_moved && ahead.refill(source) == Err(Failed) && ahead.pending() == b"t".as_slice()
+    is_moved && matches!(ahead.refill(source), Err(Failed)) && ahead.pending() == b"t".as_slice()
 }
 
 fn reads_into_a_block(alloc: Global) -> Result<bool, Fail> {
@@ -218,7 +218,10 @@ fn bytes_read_ahead(rt: HostRuntime) -> Result<(), Fail> {
 }
 
 fn is_one(lines: &mut Lines<MemorySource>) -> bool {
-    let is_read = matches!(lines.next(), Ok(Some(LineRead::Whole(b"one"))));
+    let is_read = match lines.next() {
+        Ok(Some(LineRead::Whole(line))) => line == b"one".as_slice(),
+        _ => false,
+    };
     is_read && lines.line() == b"one\n".as_slice() && lines.text() == b"one".as_slice()
 }
 
