@@ -6,7 +6,6 @@ use dccp_endpoint::{
     Timer,
 };
 use std::alloc::Global;
-use std::test::Fail;
 
 type Client = BufferedEnd<Kinds>;
 
@@ -52,16 +51,19 @@ fn repeats_and_aborts(client: &mut Client, out: &mut Outbox) -> bool {
         && client.end().phase() == Phase::Closed
 }
 
-#[test]
-fn calls_beside_an_inbox(rt: HostRuntime) -> Result<(), Fail> {
+fn plays(client: &mut Client) -> bool {
     let mut out = Outbox::new();
-    let mut client = client(rt.alloc()).ok_or("memory")?;
-    assert!(rt; opens_once(&mut client, &mut out), "open");
-    assert!(rt; refuses_data(&mut client, &mut out), "data");
-    assert!(rt; refuses_the_rest(&mut client, &mut out), "close and prefer");
-    assert!(rt;
-        repeats_and_aborts(&mut client, &mut out),
-        "timer and abort"
-    );
-    Ok(())
+    opens_once(client, &mut out)
+        && refuses_data(client, &mut out)
+        && refuses_the_rest(client, &mut out)
+        && repeats_and_aborts(client, &mut out)
+}
+
+fn plays_anew(alloc: Global) -> Option<bool> {
+    Some(plays(&mut client(alloc)?))
+}
+
+#[test]
+fn calls_beside_an_inbox(rt: HostRuntime) {
+    assert!(rt; plays_anew(rt.alloc()) == Some(true));
 }

@@ -118,14 +118,24 @@ fn a_cookie_byte_by_byte(rt: HostRuntime) {
     assert!(rt; written(&keys, &six()).as_slice().starts_with(&SIX_TAG));
 }
 
+// The end of the address that the cookie comes from, the time, and whether it is good then.
+const TRIES: [(u8, u64, bool); 5] = [
+    (1, 1000, true),
+    (1, 121_000, true),
+    (1, 121_001, false),
+    (1, 999, false),
+    (3, 1000, false),
+];
+
 #[test]
 fn a_cookie_is_good_for_two_minutes_on_its_route(rt: HostRuntime) {
     let keys = CookieKeys::new(key(0), 0);
-    assert!(rt; is_good(&keys, &four(1), &COOKIE, 1000));
-    assert!(rt; is_good(&keys, &four(1), &COOKIE, 121_000));
-    assert!(rt; !is_good(&keys, &four(1), &COOKIE, 121_001));
-    assert!(rt; !is_good(&keys, &four(1), &COOKIE, 999));
-    assert!(rt; !is_good(&keys, &four(3), &COOKIE, 1000));
+    for (last, now, good) in &TRIES {
+        assert!(rt;
+            is_good(&keys, &four(*last), &COOKIE, *now) == *good,
+            "{last} at {now}"
+        );
+    }
     let mut changed = COOKIE;
     changed[39] = 0;
     assert!(rt; !is_good(&keys, &four(1), &changed, 1000));

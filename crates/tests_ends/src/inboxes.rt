@@ -41,7 +41,7 @@ fn is_emptied(inbox: &mut Inbox) -> Option<bool> {
 
 #[test]
 fn drops_of_an_inbox(rt: HostRuntime) -> Result<(), Fail> {
-    let mut inbox = Inbox::new(rt.alloc(), 2).ok().ok_or("no memory")?;
+    let mut inbox = Inbox::new(rt.alloc(), 2)?;
     assert_eq!(rt; is_emptied(&mut inbox), Some(true));
     Ok(())
 }

@@ -108,6 +108,8 @@ fn plays(server: &mut Server) -> Result<(), Fail> {
 
 #[test]
 fn drops_under_short_numbers(rt: HostRuntime) -> Result<(), Fail> {
-    let mut server = server(rt.alloc()).ok_or("memory")?;
-    plays(&mut server)
+    match server(rt.alloc()) {
+        Some(mut server) => plays(&mut server),
+        None => Err(Fail::from("memory")),
+    }
 }

@@ -1,9 +1,10 @@
 //! A sender that heeds what its peer's receive buffer reports, in counted time. A turn of 50 milliseconds is a round trip.
 //! The peer holds eight packets; its owner reads none, or two a turn, or listens no more.
+use crate::uses::wire::Wire;
 use ccid_two::Kinds;
 use data_dropped::BufferedEnd;
 use dccp_endpoint::{Config, Outbox, Phase, Role, Timer};
-use dccp_uses::{Pace, Restraint, SendRefusal, TimedEnd};
+use dccp_uses::{Network, Pace, Restraint, SendRefusal, TimedEnd};
 use std::alloc::Global;
 
 // How many milliseconds a turn takes.
@@ -12,28 +13,21 @@ const TURN: u64 = 50;
 // How many packets the peer's inbox holds.
 const CAPACITY: u16 = 8;
 
-// The sender, its peer, the frames that are on their way to each, and how many packets the peer's owner has read.
+// The sender, its peer, a wire to each, and how many packets the peer's owner has read.
 #[derive(Drop)]
 struct Pair {
-    alloc: Global,
     now: u64,
     sender: TimedEnd<Kinds>,
     reader: BufferedEnd<Kinds>,
-    to_sender: Vec<Vec<u8>>,
-    to_reader: Vec<Vec<u8>>,
+    to_sender: Wire,
+    to_reader: Wire,
     read: u32,
 }
 
-fn copied(alloc: Global, bytes: &[u8]) -> Vec<u8> {
-    let mut copy = Vec::new(alloc);
-    let _ = copy.extend_from_slice(bytes);
-    copy
-}
-
-// The frame that a step has left goes onto its way.
-fn post(alloc: Global, out: &Outbox, way: &mut Vec<Vec<u8>>) {
-    if let Some(sent) = out.sent() {
-        let _ = way.push(copied(alloc, sent.bytes));
+// The frame that a step has left goes onto its wire.
+fn post(out: &Outbox, wire: &mut Wire) {
+    if let Some(frame) = out.frame() {
+        wire.send(frame.bytes());
     }
 }
 
@@ -56,12 +50,11 @@ fn reader(alloc: Global) -> Option<BufferedEnd<Kinds>> {
 impl Pair {
     fn new(alloc: Global) -> Option<Pair> {
         Some(Pair {
-            alloc,
             now: 5_000,
             sender: sender(alloc)?,
             reader: reader(alloc)?,
-            to_sender: Vec::new(alloc),
-            to_reader: Vec::new(alloc),
+            to_sender: Wire::whole(alloc),
+            to_reader: Wire::whole(alloc),
             read: 0,
         })
     }
@@ -70,7 +63,7 @@ impl Pair {
         let mut out = Outbox::new();
         if datagram.len() <= 2_044 {
             let _ = self.sender.receive(datagram, self.now, &mut out);
-            post(self.alloc, &out, &mut self.to_reader);
+            post(&out, &mut self.to_reader);
         }
     }
 
@@ -78,7 +71,7 @@ impl Pair {
         let mut out = Outbox::new();
         if datagram.len() <= 2_044 {
             let _ = self.reader.receive(datagram, &mut out);
-            post(self.alloc, &out, &mut self.to_sender);
+            post(&out, &mut self.to_sender);
         }
     }
 
@@ -87,7 +80,7 @@ impl Pair {
         for _ in 0..7 {
             if let Some(due) = self.sender.due(self.now) {
                 let _ = self.sender.tell(due, self.now, &mut out);
-                post(self.alloc, &out, &mut self.to_reader);
+                post(&out, &mut self.to_reader);
             }
         }
     }
@@ -96,19 +89,21 @@ impl Pair {
     fn acknowledge(&mut self) {
         let mut out = Outbox::new();
         let _ = self.reader.timer(Timer::Ack, &mut out);
-        post(self.alloc, &out, &mut self.to_sender);
+        post(&out, &mut self.to_sender);
     }
 
     // A turn goes by: what was on its way arrives, and both are told what is due.
     fn turn(&mut self) {
         self.now = self.now.saturating_add(TURN);
-        let coming = std::mem::replace(&mut self.to_reader, Vec::new(self.alloc));
-        for datagram in coming.iter() {
-            self.hear_sender(datagram);
+        for _ in 0..80 {
+            if let Some(datagram) = self.to_reader.take() {
+                self.hear_sender(&datagram);
+            }
         }
-        let coming = std::mem::replace(&mut self.to_sender, Vec::new(self.alloc));
-        for datagram in coming.iter() {
-            self.hear_reader(datagram);
+        for _ in 0..80 {
+            if let Some(datagram) = self.to_sender.take() {
+                self.hear_reader(&datagram);
+            }
         }
         self.acknowledge();
         self.tick();
@@ -118,7 +113,7 @@ impl Pair {
     fn open(&mut self) -> bool {
         let mut out = Outbox::new();
         let opened = self.sender.open(self.now, &mut out).is_ok();
-        post(self.alloc, &out, &mut self.to_reader);
+        post(&out, &mut self.to_reader);
         for _ in 0..8 {
             self.turn();
         }
@@ -128,7 +123,7 @@ impl Pair {
     fn send(&mut self) -> Result<(), SendRefusal> {
         let mut out = Outbox::new();
         let answer = self.sender.send(&[7], self.now, &mut out);
-        post(self.alloc, &out, &mut self.to_reader);
+        post(&out, &mut self.to_reader);
         answer
     }
 
@@ -198,10 +193,7 @@ fn first_amiss(pair: &mut Pair) -> Option<&'static str> {
 
 fn amiss(alloc: Global) -> Option<&'static str> {
     match Pair::new(alloc) {
-        Some(pair) => {
-            let mut pair = pair;
-            first_amiss(&mut pair)
-        }
+        Some(mut pair) => first_amiss(&mut pair),
         None => Some("memory"),
     }
 }

@@ -231,10 +231,7 @@ fn first_amiss(pair: &mut Pair) -> Option<&'static str> {
 
 fn amiss(alloc: Global) -> Option<&'static str> {
     match Pair::new(alloc) {
-        Some(pair) => {
-            let mut pair = pair;
-            first_amiss(&mut pair)
-        }
+        Some(mut pair) => first_amiss(&mut pair),
         None => Some("memory"),
     }
 }
