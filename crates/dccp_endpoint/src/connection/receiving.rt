@@ -358,16 +358,20 @@ impl Connection {
         ensures config { self.new.config ≡ self.old.config }
         ensures rows { self.new.rows ≡ self.old.rows }
     {
-        if entrance != Entrance::Check {
-            return Ok(());
-        }
-        match self.marks.check(packet.kind, packet.number, packet.ack) {
-            Verdict::Valid => {
-                self.raise(packet);
-                Ok(())
-            }
-            Verdict::SyncFor(number) => Err(Exit::Sync(number)),
-            Verdict::Drop => Err(Exit::Drop(Why::BadSync)),
+        match entrance {
+            Entrance::Check => match self.marks.check(packet.kind, packet.number, packet.ack) {
+                Verdict::Valid => {
+                    self.raise(packet);
+                    Ok(())
+                }
+                Verdict::SyncFor(number) => Err(Exit::Sync(number)),
+                Verdict::Drop => Err(Exit::Drop(Why::BadSync)),
+            },
+            Entrance::NoConnection
+            | Entrance::Stray
+            | Entrance::Accept
+            | Entrance::InRequest
+            | Entrance::PacketError => Ok(()),
         }
     }
 
