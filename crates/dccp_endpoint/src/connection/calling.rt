@@ -190,7 +190,7 @@ impl Connection {
     {
         let opening = self.rows.prefer(feature, place, wish);
         fit(&mut self.marks, &self.rows);
-        opening == Opening::Now
+        matches!(opening, Opening::Now)
     }
 
     // An Ack with the Changes of these rows, which ask.
