@@ -15,7 +15,7 @@ use Rattle.ack_vectors.specs.Vector.{option_data, vector_under}
 use Rattle.ack_vectors.specs.declared.room.Vectors.{Vectors}
 use Rattle.run_list.specs.MarkedSet.{MarkedSet, has}
 use Rattle.dccp_endpoint.specs.Calling.{has_keys}
-use Rattle.dccp_endpoint.specs.Drafts.{carrying}
+use Rattle.dccp_endpoint.specs.Drafts.{Draft, carrying}
 use Rattle.dccp_endpoint.specs.End.{EndState}
 use Rattle.dccp_endpoint.specs.Heeding.{DueConfirm, is_of_negotiation}
 use Rattle.dccp_endpoint.specs.Reporting.{reporting, sends_vectors, vector_item, vector_items}
@@ -57,6 +57,10 @@ short_ack e k confirms rows keys may =
     ∙ ap (λ (b : Bool). allows_short e && not b)
     (front_is_silent (sends_vectors e.rows) e.config.vectors e.received.set e.marks.gsr (confirm_items confirms ++ change_items rows keys)
     ∙ says_negotiate confirms rows keys)
+
+-- a type that has only long numbers
+pub stays_long : (e : EndState) (draft : Draft) → may_be_short (packet_type draft.kind) ≡ false → goes_short e draft ≡ false
+stays_long e draft long = ap (λ (b : Bool). b && (allows_short e && not (list_any is_negotiating draft.options))) long
 
 and_true : (b : Bool) → (b && true) ≡ b
 and_true true = refl

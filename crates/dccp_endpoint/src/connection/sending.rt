@@ -141,7 +141,7 @@ impl Connection {
     }
 
     // Sends a packet that says all that is due: the Confirms, and the Changes of these rows, which are in CHANGING.
-    #[tactic(auto, using(crate::proofs::Frames::fixed_part_is_short, crate::proofs::Writing::written_both))]
+    #[tactic(auto, using(crate::proofs::Frames::fixed_part_is_short))]
     fn send_saying(
         &mut self,
         kind: Kind,
