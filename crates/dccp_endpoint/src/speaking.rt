@@ -138,7 +138,7 @@ fn is_confirmed(confirms: &[ConfirmOut], feature: Feature, place: Place) -> bool
 fn open_offer(rows: &mut Negotiation, feature: Feature, place: Place, confirmed: bool)
     ensures { rows.new ≡ turned rows.old (offerings (λ k. confirmed) ((feature, place) ∷ [])) }
 {
-    if rows.held(feature, place).stand == Stand::Stable {
+    if matches!(rows.held(feature, place).stand, Stand::Stable) {
         rows.open_offer(feature, place, confirmed);
     }
 }

@@ -469,7 +469,7 @@ impl Connection {
         ensures answer { result ≡ answer_to self.old.received.set number }
     {
         let mark = self.received.took(number);
-        if mark == Marked::New {
+        if matches!(mark, Marked::New) {
             self.marked = self.marked.saturating_add(1);
         }
         self.owed = true;
@@ -514,7 +514,7 @@ impl Connection {
         ensures counts { self.new ≡ counts_data self.old (delivers packet.now.kind self.old.phase mark) }
         ensures place { result ≡ delivered_if (delivers packet.now.kind self.old.phase mark) packet.now.data_place }
     {
-        if !(carries_data(packet.kind) && is_open(self.phase) && mark == Marked::New) {
+        if !(carries_data(packet.kind) && is_open(self.phase) && matches!(mark, Marked::New)) {
             return None;
         }
         self.unacked = self.unacked.saturating_add(1);
