@@ -37,7 +37,7 @@ use Rattle.dccp_server.specs.declared.happening.FlowHappening.TheVariants as hap
 use Rattle.server_peers.specs.declared.queue.Ticket.{Ticket}
 use Rattle.dccp_server.specs.declared.upkeep.Upkeep.{Upkeep}
 use Rattle.dccp_server.proofs.Refusing.{IsResting, kept_at, rests_after, resting}
-use Rattle.dccp_server.proofs.Timing.{same_kept}
+use Rattle.dccp_server.proofs.Timing.{same_kept, same_rung}
 use Rattle.server_peers.proofs.Among.{found_among}
 
 one-if : Bool → ℕ
@@ -324,7 +324,8 @@ module _ (now : ℕ) where
         in
         subst (λ (b : Bool). total (serves_on now s (listening_after s.listening peer (Calls (Fires timer))) peer (called_so (Fires timer) b)).upkeeps + 1 ≤ total s.upkeeps)
         (sym told)
-        (falls-by peer e (Some (Fires timer)) (happening.Rang timer) found (less e (u peer) (due.Timer timer) at))
+        (falls-by peer e (Some (Fires timer)) (happening.Rang timer) found
+        (subst (λ (x : Upkeep). weight x + 1 ≤ weight (u peer)) (sym (same_rung now e (u peer) timer)) (less e (u peer) (due.Timer timer) at)))
     fewer-by peer due.Rules (Some e) found there at =
         let rule = due_rule (u peer).path now in
         let lighter : weight (next_upkeep now s.pace (u peer) (happening.Ruled rule) (flow_after e (call_for_rule rule (u peer).path.aim (Some e)))) + 1 ≤ weight (u peer) =

@@ -12,7 +12,7 @@ use Rattle.dccp_states.specs.declared.calls.Timer.TheVariants as timers
 use Rattle.feature_lists.specs.declared.features.Feature.TheVariants.{AckRatio}
 use Rattle.feature_lists.specs.declared.features.Place.TheVariants.{Here}
 use Rattle.dccp_states.specs.declared.seen.Seen.TheVariants.{Received}
-use Rattle.dccp_uses.specs.Alarms.{alarm_of, arranged_by, has_run_out, no_alarms, rung_by, starting_wait_by}
+use Rattle.dccp_uses.specs.Alarms.{alarm_of, arranged_by, has_run_out, is_idle, no_alarms, rung_by, starting_wait_by}
 use Rattle.dccp_uses.specs.Path.{arranged_path, handshake_timed, path_begins, path_heard, path_waits, sight_of, told_timer}
 use Rattle.dccp_uses.specs.Rules.{alarms_by_rule, path_by_rule}
 use Rattle.dccp_uses.specs.Session.{is_delivery}
@@ -72,10 +72,15 @@ kept_heard now u it e = kept_with_path now u it (path_heard u.path it.was (sight
 abbrev pub kept_sent : ℕ → Upkeep → FlowEnd → Upkeep
 kept_sent now u e = kept_on now 0 u.alarms (path_sent kinds_control u.path e now) e
 
--- a timer has fired
-abbrev pub kept_rung : ℕ → Upkeep → Timer → FlowEnd → Upkeep
-kept_rung now u timer e =
+-- A timer has fired. If it is idle afterwards, what is kept stays.
+abbrev pub kept_rung_if : ℕ → Upkeep → Timer → FlowEnd → Bool → Upkeep
+kept_rung_if now u timer e true = u
+kept_rung_if now u timer e false =
     kept_on now 0 (rung_by (path_waits u.path) u.alarms timer now) (told_timer u.path timer (sight_of kinds_control e) now) e
+
+-- the same by the phase after it
+abbrev pub kept_rung : ℕ → Upkeep → Timer → FlowEnd → Upkeep
+kept_rung now u timer e = kept_rung_if now u timer e (is_idle u.alarms timer e.state.phase)
 
 -- it began to close: the wait for its peer's answer starts
 abbrev pub kept_closed : ℕ → Upkeep → FlowEnd → Upkeep

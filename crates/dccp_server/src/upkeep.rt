@@ -181,6 +181,9 @@ impl Upkeep {
     fn ring(&mut self, timer: Timer, end: &Endpoint<Kinds>, now: u64)
         ensures { self.new ≡ kept_rung now self.old timer end.now }
     {
+        if self.alarms.is_idle(timer, end.phase()) {
+            return;
+        }
         let waits = self.path.waits();
         self.alarms.ring(&waits, timer, now);
         self.path.note_timer(timer, &Sight::of(end), now);

@@ -12,13 +12,13 @@ use Rattle.dccp_states.specs.declared.calls.Timer.TheVariants as timers
 use Rattle.dccp_states.specs.declared.outcome.Outcome.{Outcome}
 use Rattle.feature_lists.specs.declared.features.Feature.{Feature}
 use Rattle.feature_lists.specs.declared.features.Place.{Place}
-use Rattle.dccp_uses.specs.Alarms.{alarm_of, arranged, has_run_out, rung, with_delivery, with_progress}
+use Rattle.dccp_uses.specs.Alarms.{alarm_of, arranged, has_run_out, is_idle, rung, with_delivery, with_progress}
 use Rattle.dccp_uses.specs.Classic.{ClassicIsTheSession, IsClassic, IsSessionStep, session_of, session_refusal_named}
 use Rattle.dccp_uses.specs.Path.{aimed, answered_probe, classic_pace, fell, heard_from, is_answered, path_heard, sight_of, with_flight}
 use Rattle.dccp_uses.specs.Reader.{reader_begins}
-use Rattle.dccp_uses.specs.Session.{SessionStep, after_hearing, called, calls, calls_anew, condition_of, goes_on_with, hears, is_delivery, tells_end, tells_news}
+use Rattle.dccp_uses.specs.Session.{SessionStep, after_hearing, called, calls, calls_anew, condition_of, session_told_if, goes_on_with, hears, is_delivery, tells_end, tells_news}
 use Rattle.dccp_uses.specs.Sessions.{session_hears, stands_still, tells_news_of}
-use Rattle.dccp_uses.specs.Timed.{TimedState, TimedStep, after_datagram, heard_out, is_taken, refusal_named, ruled_condition, timed_aborts, timed_called, timed_closes, timed_fires, timed_heard, timed_opens, timed_prefers, timed_sends, timers_go_on, timers_go_on_after, with_refusal_named}
+use Rattle.dccp_uses.specs.Timed.{TimedState, TimedStep, after_datagram, heard_out, is_taken, refusal_named, ruled_condition, timed_aborts, timed_called, timed_closes, timed_fires, timed_heard, timed_opens, timed_prefers, timed_sends, timed_told_if, timers_go_on, timers_go_on_after, with_refusal_named}
 use Rattle.dccp_uses.specs.declared.alarms.Alarms.{Alarms}
 use Rattle.dccp_uses.specs.declared.path.Path.{Path}
 use Rattle.dccp_uses.specs.declared.sight.Sight.{Sight}
@@ -187,15 +187,20 @@ module _ {C : Type 0} (control : Control C) where
   abbrev fired : TimedState C → Timer → EndStep C Bool
   fired s timer = with_control control s.end.congestion (fires s.end.state timer (has_in_flight control s.end.congestion))
 
-  -- a timer is told
+  -- a timer is told, by whether it is idle afterwards
+  told-if : (now : ℕ) (s : TimedState C) (timer : Timer) (step : EndStep C Bool) (idle : Bool)
+      → IsSessionStep (timed_told_if control now (record s { path = still s.path }) timer step idle) (session_told_if control now (session_of s) timer step idle)
+  told-if now s timer step true = record { session_is = refl; frame_is = refl; answer_is = refl; stays_classic = still-classic s.path }
+  told-if now s timers.Request step false = went-on (still s.path) (rung s.alarms timers.Request now) now 0 step
+  told-if now s timers.Ack step false = went-on (still s.path) (rung s.alarms timers.Ack now) now 0 step
+  told-if now s timers.Negotiate step false = went-on (still s.path) (rung s.alarms timers.Negotiate now) now 0 step
+  told-if now s timers.Rto step false = went-on (record (still s.path) { timed = None }) (rung s.alarms timers.Rto now) now 0 step
+  told-if now s timers.Close step false = went-on (still s.path) (rung s.alarms timers.Close now) now 0 step
+  told-if now s timers.TimeWait step false = went-on (still s.path) (rung s.alarms timers.TimeWait now) now 0 step
+
   told-still : (now : ℕ) (s : TimedState C) (timer : Timer)
       → IsSessionStep (timed_fires control now (record s { path = still s.path }) timer) (tells_end control now (session_of s) timer)
-  told-still now s timers.Request = went-on (still s.path) (rung s.alarms timers.Request now) now 0 (fired s timers.Request)
-  told-still now s timers.Ack = went-on (still s.path) (rung s.alarms timers.Ack now) now 0 (fired s timers.Ack)
-  told-still now s timers.Negotiate = went-on (still s.path) (rung s.alarms timers.Negotiate now) now 0 (fired s timers.Negotiate)
-  told-still now s timers.Rto = went-on (record (still s.path) { timed = None }) (rung s.alarms timers.Rto now) now 0 (fired s timers.Rto)
-  told-still now s timers.Close = went-on (still s.path) (rung s.alarms timers.Close now) now 0 (fired s timers.Close)
-  told-still now s timers.TimeWait = went-on (still s.path) (rung s.alarms timers.TimeWait now) now 0 (fired s timers.TimeWait)
+  told-still now s timer = told-if now s timer (fired s timer) (is_idle s.alarms timer (fired s timer).after.state.phase)
 
   told : (now : ℕ) (s : TimedState C) (timer : Timer) → IsClassic s.path
       → IsSessionStep (timed_fires control now s timer) (tells_end control now (session_of s) timer)

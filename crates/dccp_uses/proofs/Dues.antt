@@ -1,18 +1,20 @@
 -- What is due of an end, one after another.
-use Rattle.std.proofs.Common.{◌≡◌, refl, sym, subst, ℕ, max, List, [], ◌∷◌, Bool, true, false, if◌then◌else◌, Option, Some, None, arith}
+use Rattle.std.proofs.Common.{◌≡◌, refl, sym, subst, ℕ, max, List, [], ◌∷◌, Bool, true, false, not, ◌&&◌, if◌then◌else◌, Option, Some, None, is_some, arith}
+use Rattle.std.proofs.lemmas.Bool.{false≢true}
 use Rattle.congestion_trait.specs.Control.{Control}
-use Rattle.dccp_endpoint.specs.Calling.{fires}
-use Rattle.dccp_endpoint.specs.Controlled.{End, has_in_flight, with_control}
+use Rattle.dccp_endpoint.specs.Calling.{applies_in, fires}
+use Rattle.dccp_endpoint.specs.Controlled.{End, EndStep, has_in_flight, with_control}
 use Rattle.dccp_states.specs.declared.calls.Timer.{Timer}
 use Rattle.dccp_states.specs.declared.calls.Timer.TheVariants as timers
-use Rattle.dccp_uses.specs.Alarms.{alarm_of, has_run_out, rung_by, starting_wait_by}
+use Rattle.dccp_uses.specs.Alarms.{alarm_of, has_run_out, is_idle, rung_by, starting_wait_by}
 use Rattle.dccp_uses.specs.Handing.{HandsAll}
 use Rattle.dccp_uses.specs.Holding.{HoldingState}
 use Rattle.dccp_uses.specs.Path.{path_waits, rules_alarm, sight_of}
 use Rattle.dccp_uses.specs.Rules.{alarms_by_rule, due_rule, path_by_rule, rule_does}
 use Rattle.dccp_uses.specs.Sessions.{Does, NoneIsDue, holding_rings, rings_due, rings_each_due, stands_still}
-use Rattle.dccp_uses.specs.Timed.{TimedState, TimedStep, due_alarm, due_told, every_due, timers_go_on, ruled_condition}
+use Rattle.dccp_uses.specs.Timed.{TimedState, TimedStep, due_alarm, due_told, every_due, timed_told_if, timers_go_on, ruled_condition}
 use Rattle.dccp_uses.specs.Path.{arranged_rules, rules_left, told_timer}
+use Rattle.dccp_uses.specs.declared.alarms.Alarm.{Alarm}
 use Rattle.dccp_uses.specs.declared.alarms.Alarms.{Alarms}
 use Rattle.dccp_uses.specs.declared.path.Path.{Path}
 use Rattle.dccp_uses.specs.declared.rule.Rule.{Rule}
@@ -86,6 +88,11 @@ rules-rest : (left : Option ℕ) (now : ℕ) → has_run_out (rules_alarm left 1
 rules-rest None now = refl
 rules-rest (Some left) now = fresh_runs now (max left 1) (omega arith)
 
+-- nor does a timer that is idle
+none-rests : (alarm : Option Alarm) (applies : Bool) (now : ℕ) → (not (is_some alarm) && not applies) ≡ true → has_run_out alarm now ≡ false
+none-rests None applies now is = refl
+none-rests (Some alarm) applies now is = absurd (false≢true is)
+
 module _ {C : Type 0} (control : Control C) (now : ℕ) where
   -- where the timers go on, one that has not run out stays so
   goes-quiet : (least : ℕ) (alarms : Alarms) (path : Path) (end : End C) (timer : Timer) → has_run_out (alarm_of alarms timer) now ≡ false
@@ -93,11 +100,18 @@ module _ {C : Type 0} (control : Control C) (now : ℕ) where
   goes-quiet least alarms path end timer quiet =
       arranged_stays (path_waits path) alarms timer (ruled_condition path (sight_of control end)) now quiet
 
-  told-itself : (s : TimedState C) (it : Due) → has_run_out (due_alarm (due_told control now s it).timed it) now ≡ false
-  told-itself s (due.Timer timer) =
-      let step = with_control control s.end.congestion (fires s.end.state timer (has_in_flight control s.end.congestion)) in
+  abbrev told-so : TimedState C → Timer → EndStep C Bool
+  told-so s timer = with_control control s.end.congestion (fires s.end.state timer (has_in_flight control s.end.congestion))
+
+  itself-if : (s : TimedState C) (timer : Timer) (step : EndStep C Bool) (idle : Bool) → is_idle s.alarms timer step.after.state.phase ≡ idle
+      → has_run_out (alarm_of (timed_told_if control now s timer step idle).timed.alarms timer) now ≡ false
+  itself-if s timer step true is = none-rests (alarm_of s.alarms timer) (applies_in timer step.after.state.phase) now is
+  itself-if s timer step false is =
       goes-quiet 0 (rung_by (path_waits s.path) s.alarms timer now) (told_timer s.path timer (sight_of control step.after) now) step.after timer
       (told_stays (path_waits s.path) s.alarms timer now)
+
+  told-itself : (s : TimedState C) (it : Due) → has_run_out (due_alarm (due_told control now s it).timed it) now ≡ false
+  told-itself s (due.Timer timer) = itself-if s timer (told-so s timer) (is_idle s.alarms timer (told-so s timer).after.state.phase) refl
   told-itself s due.Rules =
       let it = due_rule s.path now in
       let step = rule_does control s.end it s.path.aim in
@@ -105,12 +119,17 @@ module _ {C : Type 0} (control : Control C) (now : ℕ) where
       let wait = starting_wait_by (path_waits path) (alarms_by_rule (path_waits s.path) s.alarms it now) timers.Rto in
       rules-rest (rules_left (arranged_rules path wait (sight_of control step.after) now) now) now
 
+  another-if : (s : TimedState C) (told timer : Timer) (step : EndStep C Bool) (idle : Bool) → has_run_out (alarm_of s.alarms timer) now ≡ false
+      → has_run_out (alarm_of (timed_told_if control now s told step idle).timed.alarms timer) now ≡ false
+  another-if s told timer step true quiet = quiet
+  another-if s told timer step false quiet =
+      goes-quiet 0 (rung_by (path_waits s.path) s.alarms told now) (told_timer s.path told (sight_of control step.after) now) step.after timer
+      (told-keeps (path_waits s.path) s.alarms told timer now quiet)
+
   told-another : (s : TimedState C) (it : Due) (timer : Timer) → has_run_out (alarm_of s.alarms timer) now ≡ false
       → has_run_out (alarm_of (due_told control now s it).timed.alarms timer) now ≡ false
   told-another s (due.Timer told) timer quiet =
-      let step = with_control control s.end.congestion (fires s.end.state told (has_in_flight control s.end.congestion)) in
-      goes-quiet 0 (rung_by (path_waits s.path) s.alarms told now) (told_timer s.path told (sight_of control step.after) now) step.after timer
-      (told-keeps (path_waits s.path) s.alarms told timer now quiet)
+      another-if s told timer (told-so s told) (is_idle s.alarms told (told-so s told).after.state.phase) quiet
   told-another s due.Rules timer quiet =
       let it = due_rule s.path now in
       let step = rule_does control s.end it s.path.aim in

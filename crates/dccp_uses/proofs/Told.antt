@@ -1,16 +1,16 @@
 -- What a timer and a datagram have the end do is what the definitions say, where each part of it is told by itself.
-use Rattle.std.proofs.Common.{◌≡◌, sym, ap, ◌∙◌, ℕ, nat_lt, Bool, true, not, List, Option, Some, is_some}
+use Rattle.std.proofs.Common.{◌≡◌, sym, ap, ◌∙◌, ℕ, nat_lt, Bool, true, false, not, List, Option, Some, is_some}
 use Rattle.congestion_trait.specs.Control.{Control}
 use Rattle.dccp_packets.specs.Outgoing.{Outgoing}
 use Rattle.dccp_endpoint.specs.Calling.{fires}
 use Rattle.dccp_endpoint.specs.Controlled.{End, EndStep, has_in_flight, with_control}
 use Rattle.dccp_states.specs.declared.calls.Timer.{Timer}
 use Rattle.dccp_states.specs.declared.outcome.Outcome.{Outcome}
-use Rattle.dccp_uses.specs.Alarms.{ack_hurried_by, progressed_by, rung_by}
+use Rattle.dccp_uses.specs.Alarms.{ack_hurried_by, is_idle, progressed_by, rung_by}
 use Rattle.dccp_uses.specs.Path.{path_heard, path_waits, sight_of, told_timer}
 use Rattle.dccp_uses.specs.Session.{is_delivery}
 use Rattle.dccp_uses.specs.Syncs.{admitted}
-use Rattle.dccp_uses.specs.Timed.{TimedState, TimedStep, acks_now, alarms_heard, heard_if, heard_out, is_hole, is_taken, timed_fires, timed_heard, timed_hears, timed_takes, timed_told, timers_go_on_seen}
+use Rattle.dccp_uses.specs.Timed.{TimedState, TimedStep, acks_now, alarms_heard, heard_if, heard_out, is_hole, is_taken, timed_fires, timed_heard, timed_hears, timed_takes, timed_told, timed_told_if, timers_go_on, timers_go_on_seen}
 use Rattle.dccp_uses.specs.declared.alarms.Alarms.{Alarms}
 use Rattle.dccp_uses.specs.declared.path.Path.{Path}
 use Rattle.dccp_uses.specs.declared.sight.Sight.{Sight}
@@ -19,24 +19,27 @@ use Rattle.dccp_uses.specs.declared.waits.Waits.{Waits}
 abbrev as-step : {C Answer : Type 0} → Option Outgoing → Answer → TimedState C → TimedStep C Answer
 as-step frame answer s = record { timed = s; frame = frame; answer = answer }
 
-pub fired : {C : Type 0} (control : Control C) (now : ℕ) (s new : TimedState C) (timer : Timer) (end : End C) (frame : Option Outgoing) (answer : Bool)
-    (alarms : Alarms) (path : Path) (sight : Sight)
-    → alarms ≡ rung_by (path_waits s.path) s.alarms timer now
-    → record { after = end; frame = frame; answer = answer } ≡ with_control control s.end.congestion
-    (fires s.end.state timer (has_in_flight control s.end.congestion))
-    → sight ≡ sight_of control end
-    → path ≡ told_timer s.path timer sight now
-    → new ≡ timers_go_on_seen now 0 alarms path sight end
-    → record { timed = new; frame = frame; answer = answer } ≡ timed_fires control now s timer
-fired {C} control now s new timer end frame answer alarms path sight alarms_are step_is sight_is path_is new_is =
-    ap (as-step frame answer) new_is
-    ∙ ap (λ (a : Alarms). as-step frame answer (timers_go_on_seen now 0 a path sight end)) alarms_are
-    ∙ ap (λ (p : Path). as-step frame answer (timers_go_on_seen now 0 (rung_by (path_waits s.path) s.alarms timer now) p sight end)) path_is
-    ∙ ap
-    (λ (x : Sight).
-    as-step frame answer (timers_go_on_seen now 0 (rung_by (path_waits s.path) s.alarms timer now) (told_timer s.path timer x now) x end))
-    sight_is
-    ∙ ap (λ (step : EndStep C Bool). timed_told control now s timer step) step_is
+module _ {C : Type 0} (control : Control C) (now : ℕ) (s : TimedState C) (timer : Timer) (end : End C) (frame : Option Outgoing) (answer : Bool) where
+  abbrev fires-so : EndStep C Bool
+  fires-so = record { after = end; frame = frame; answer = answer }
+
+  -- by whether the timer is idle afterwards
+  told-by : (idle : Bool) → is_idle s.alarms timer end.state.phase ≡ idle
+      → fires-so ≡ with_control control s.end.congestion (fires s.end.state timer (has_in_flight control s.end.congestion))
+      → timed_told_if control now s timer fires-so idle ≡ timed_fires control now s timer
+  told-by idle is step_is =
+      ap (timed_told_if control now s timer fires-so) (sym is) ∙ ap (λ (it : EndStep C Bool). timed_told control now s timer it) step_is
+
+  pub rested : is_idle s.alarms timer end.state.phase ≡ true
+      → fires-so ≡ with_control control s.end.congestion (fires s.end.state timer (has_in_flight control s.end.congestion))
+      → record { timed = record s { end = end }; frame = frame; answer = answer } ≡ timed_fires control now s timer
+  rested is step_is = told-by true is step_is
+
+  pub fired : (new : TimedState C) → is_idle s.alarms timer end.state.phase ≡ false
+      → fires-so ≡ with_control control s.end.congestion (fires s.end.state timer (has_in_flight control s.end.congestion))
+      → new ≡ timers_go_on control now 0 (rung_by (path_waits s.path) s.alarms timer now) (told_timer s.path timer (sight_of control end) now) end
+      → record { timed = new; frame = frame; answer = answer } ≡ timed_fires control now s timer
+  fired new is step_is new_is = ap (as-step frame answer) new_is ∙ told-by false is step_is
 
 -- the alarms after a datagram
 alarms-are : (waits : Waits) (path : Path) (alarms after : Alarms) (old new : Sight) (delivered silent hole : Bool) (now : ℕ)

@@ -1,9 +1,10 @@
 -- When the timers of an end run out (RFC 4340, sections 3.4, 6.6.3, 8.1.1, 8.1.5 and 8.3; RFC 4341, section 5, which
 -- leads to RFC 2988). Times are in milliseconds. Where the standard leaves a wait open it is own.
-use Rattle.std.specs.Prelude.{ℕ, ◌≤◌, ◌-◌, ◌==◌, ◌&&◌, if◌then◌else◌, max, min, nat_le, Bool, true, false, Option, Some, None}
+use Rattle.std.specs.Prelude.{ℕ, ◌≤◌, ◌-◌, ◌==◌, ◌&&◌, if◌then◌else◌, max, min, nat_le, Bool, true, false, not, Option, Some, None, is_some}
 use Rattle.dccp_endpoint.specs.Calling.{applies_in}
 use Rattle.dccp_states.specs.declared.calls.Timer.{Timer}
 use Rattle.dccp_states.specs.declared.calls.Timer.TheVariants as timers
+use Rattle.dccp_states.specs.declared.phase.Phase.{Phase}
 use Rattle.dccp_uses.specs.declared.alarms.Alarm.{Alarm}
 use Rattle.dccp_uses.specs.declared.alarms.Alarms.{Alarms}
 use Rattle.dccp_uses.specs.declared.alarms.Condition.{Condition}
@@ -81,6 +82,10 @@ starting_wait_by waits alarms timer = max 1 (timer_wait waits timer).first
 abbrev pub runs_in : Timer → Condition → Bool
 runs_in timers.Rto c = applies_in timers.Rto c.phase && c.in_flight
 runs_in timer c = applies_in timer c.phase
+
+-- a timer that does not run, and that this phase does not have
+abbrev pub is_idle : Alarms → Timer → Phase → Bool
+is_idle alarms timer phase = not (is_some (alarm_of alarms timer)) && not (applies_in timer phase)
 
 -- the alarm of a timer: it goes on or begins if the timer runs
 abbrev pub alarm_after : Bool → Option Alarm → ℕ → ℕ → Option Alarm

@@ -13,7 +13,7 @@ use Rattle.dccp_states.specs.declared.outcome.Outcome.{Outcome}
 use Rattle.dccp_states.specs.declared.outcome.Outcome.TheVariants.{Took, Dropped, Synced, WasReset, SentReset}
 use Rattle.dccp_states.specs.declared.phase.Phase.{Phase}
 use Rattle.dccp_states.specs.declared.phase.Phase.TheVariants as phases
-use Rattle.dccp_uses.specs.Alarms.{alarm_of, arranged, has_run_out, no_alarms, rung, with_delivery, with_progress}
+use Rattle.dccp_uses.specs.Alarms.{alarm_of, arranged, has_run_out, is_idle, no_alarms, rung, with_delivery, with_progress}
 use Rattle.dccp_uses.specs.declared.alarms.Alarms.{Alarms}
 use Rattle.dccp_uses.specs.declared.alarms.Condition.{Condition}
 use Rattle.dccp_uses.specs.declared.news.News.{News}
@@ -105,11 +105,19 @@ hears control now s bytes =
     if nat_le (length bytes) 2044 then tells_news s (after_hearing control now s (with_control control s.end.congestion (receives s.end.state bytes)))
     else record { session = s; frame = None; answer = news.TooLong }
 
+-- A timer has run out, and its end was called for it. Of one that is idle afterwards the timers take no notice.
+abbrev pub session_told_if : {C : Type 0} → Control C → ℕ → SessionState C → Timer → EndStep C Bool → Bool → SessionStep C Bool
+session_told_if control now s timer step true = record { session = record s { end = step.after }; frame = step.frame; answer = step.answer }
+session_told_if control now s timer step false = goes_on_with control now (rung s.alarms timer now) step
+
+-- the same by the phase after it
+abbrev pub session_told : {C : Type 0} → Control C → ℕ → SessionState C → Timer → EndStep C Bool → SessionStep C Bool
+session_told control now s timer step = session_told_if control now s timer step (is_idle s.alarms timer step.after.state.phase)
+
 -- A timer has run out: its end is called once for it.
 abbrev pub tells_end : {C : Type 0} → Control C → ℕ → SessionState C → Timer → SessionStep C Bool
 tells_end control now s timer =
-    goes_on_with control now (rung s.alarms timer now)
-    (with_control control s.end.congestion (fires s.end.state timer (has_in_flight control s.end.congestion)))
+    session_told control now s timer (with_control control s.end.congestion (fires s.end.state timer (has_in_flight control s.end.congestion)))
 
 -- the same if it has run out; otherwise nothing happens
 abbrev pub rings : {C : Type 0} → Control C → ℕ → SessionState C → Timer → SessionStep C Bool

@@ -19,7 +19,7 @@ use Rattle.feature_lists.specs.declared.features.Feature.{Feature}
 use Rattle.feature_lists.specs.declared.features.Place.{Place}
 use Rattle.feature_lists.specs.declared.wishes.PreferFault.{PreferFault}
 use Rattle.seq_circle.specs.Circle.{distance}
-use Rattle.dccp_uses.specs.Alarms.{alarm_of, arranged_by, ack_hurried_by, has_run_out, no_alarms, progressed_by, rung_by, sooner, starting_wait_by, until_first}
+use Rattle.dccp_uses.specs.Alarms.{alarm_of, arranged_by, ack_hurried_by, has_run_out, is_idle, no_alarms, progressed_by, rung_by, sooner, starting_wait_by, until_first}
 use Rattle.dccp_uses.specs.Path.{arranged_path, data_timed, handshake_timed, is_probing, path_begins, path_heard, path_waits, sight_of, told_timer, with_flight}
 use Rattle.dccp_uses.specs.Reader.{restraint_of}
 use Rattle.dccp_uses.specs.Rules.{alarms_by_rule, due_rule, path_by_rule, rule_does}
@@ -195,10 +195,15 @@ abbrev pub timed_takes : {C : Type 0} → Control C → ℕ → TimedState C →
 timed_takes control now s bytes =
     heard_if control now (record s { path = (admitted s.end.state s.path bytes now).path }) bytes (admitted s.end.state s.path bytes now).heard
 
--- a timer has run out, and its end was called for it
-abbrev pub timed_told : {C : Type 0} → Control C → ℕ → TimedState C → Timer → EndStep C Bool → TimedStep C Bool
-timed_told control now s timer step =
+-- A timer has run out, and its end was called for it. Of one that is idle afterwards the timers and the rules take no notice.
+abbrev pub timed_told_if : {C : Type 0} → Control C → ℕ → TimedState C → Timer → EndStep C Bool → Bool → TimedStep C Bool
+timed_told_if control now s timer step true = record { timed = record s { end = step.after }; frame = step.frame; answer = step.answer }
+timed_told_if control now s timer step false =
     timers_go_on_after control now 0 (rung_by (path_waits s.path) s.alarms timer now) (told_timer s.path timer (sight_of control step.after) now) step
+
+-- the same by the phase after it
+abbrev pub timed_told : {C : Type 0} → Control C → ℕ → TimedState C → Timer → EndStep C Bool → TimedStep C Bool
+timed_told control now s timer step = timed_told_if control now s timer step (is_idle s.alarms timer step.after.state.phase)
 
 -- the timer is the end's own, or one that its owner keeps
 abbrev pub timed_fires : {C : Type 0} → Control C → ℕ → TimedState C → Timer → TimedStep C Bool

@@ -1,6 +1,6 @@
 //! When each timer of an end runs out. The times are those of its owner, in milliseconds since any moment.
 ghost use Rattle.std.specs.Prelude.{◌≡◌};
-ghost use Rattle.dccp_uses.specs.Alarms.{alarm_after, alarm_of, arranged_by, arranged_alarm_by, ack_hurried_by, first_again, has_run_out, time_left, next_wait, no_alarms, progressed_by, rung_by, runs_in, set_back, sooner, starting_wait_by};
+ghost use Rattle.dccp_uses.specs.Alarms.{alarm_after, alarm_of, arranged_by, arranged_alarm_by, ack_hurried_by, first_again, has_run_out, is_idle, time_left, next_wait, no_alarms, progressed_by, rung_by, runs_in, set_back, sooner, starting_wait_by};
 ghost use Rattle.dccp_uses.specs.Timed.{acks_now};
 
 use crate::Waits;
@@ -99,6 +99,13 @@ impl Alarms {
             Timer::Close => self.close,
             Timer::TimeWait => self.time_wait,
         }
+    }
+
+    /// Whether a timer does not run, and this phase does not have it (own).
+    pub fn is_idle(&self, timer: Timer, phase: Phase) -> bool
+        ensures { result ≡ is_idle self.now timer phase }
+    {
+        self.of(timer).is_none() && !applies_in(timer, phase)
     }
 
     /// In how many milliseconds the first of them runs out, or None if none runs.

@@ -95,8 +95,8 @@ impl<C: Congestion> TimedEnd<C> {
     ghost use Rattle.dccp_endpoint.specs.Controlled.{in_flight_of};
     ghost use Rattle.dccp_endpoint.specs.Outcomes.{HasCause};
     ghost use Rattle.dccp_states.specs.declared.calls.Timer.TheVariants as timers;
-    ghost use Rattle.dccp_uses.specs.Alarms.{has_run_out, starting_wait_by};
-    ghost use Rattle.dccp_uses.specs.Path.{path_waits};
+    ghost use Rattle.dccp_uses.specs.Alarms.{has_run_out, rung_by, starting_wait_by};
+    ghost use Rattle.dccp_uses.specs.Path.{path_waits, sight_of, told_timer};
     ghost use Rattle.dccp_uses.specs.Reader.{restraint_of};
     ghost use Rattle.dccp_uses.specs.Timed.{due_alarm, due_told, every_due, first_due_of, first_wait_left, timers_go_on, timers_go_on_seen, obeys, timed_aborts, timed_closes, timed_fires, timed_hands, timed_hears, timed_opens, timed_prefers, timed_sends, timed_takes, tells_rules};
 
@@ -281,17 +281,28 @@ impl<C: Congestion> TimedEnd<C> {
         outcome
     }
 
-    /// A timer has run out: the end's own, or one that its owner keeps. False if it has nothing to do.
+    /// A timer has run out: the end's own, or one that its owner keeps. False if it has nothing to do. If it does not run,
+    /// and the phase afterwards does not have it, no timer and no rule changes.
     pub fn timer(&mut self, timer: Timer, now: u64, out: &mut Outbox) -> bool
         ensures { record { timed = self.new; frame = out.new; answer = result } ≡ timed_fires C.control now self.old timer }
     {
+        let applies = self.end.timer(timer, out);
+        if self.alarms.is_idle(timer, self.end.phase()) {
+            return applies;
+        }
+        self.ring(timer, now);
+        applies
+    }
+
+    // The end was called for this timer: the timers and the rules go on.
+    fn ring(&mut self, timer: Timer, now: u64)
+        ensures { self.new ≡ timers_go_on C.control now 0 (rung_by (path_waits self.old.path) self.old.alarms timer now) (told_timer self.old.path timer (sight_of C.control self.old.end) now) self.old.end }
+    {
         let waits = self.path.waits();
         self.alarms.ring(&waits, timer, now);
-        let applies = self.end.timer(timer, out);
         let sight = Sight::of(&self.end);
         self.path.note_timer(timer, &sight, now);
         self.go_on_seen(&sight, 0, now);
-        applies
     }
 
     // The first rule that is due makes its end do something. False if none does.

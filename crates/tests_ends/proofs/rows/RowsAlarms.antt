@@ -12,7 +12,7 @@ use Rattle.dccp_states.specs.declared.phase.Phase.TheVariants as phases
 use Rattle.path_rules.specs.declared.waits.Wait.{Wait}
 use Rattle.data_dropped.specs.declared.answers.Arrival.TheVariants.{Kept}
 use Rattle.data_dropped.specs.declared.answers.Arrival.TheVariants as arrival
-use Rattle.dccp_uses.specs.Alarms.{ack_hurried_by, alarm_after, alarm_of, arranged_by, classic_waits, first_again, has_run_out, next_wait, no_alarms, progressed_by, rung_by, runs_in, set_back, sooner, starting_wait_by, time_left, timer_wait, until_first, with_alarm}
+use Rattle.dccp_uses.specs.Alarms.{ack_hurried_by, alarm_after, alarm_of, arranged_by, classic_waits, first_again, has_run_out, is_idle, next_wait, no_alarms, progressed_by, rung_by, runs_in, set_back, sooner, starting_wait_by, time_left, timer_wait, until_first, with_alarm}
 use Rattle.dccp_uses.specs.Path.{path_begins, usual_pace}
 use Rattle.dccp_uses.specs.Session.{has_closed, is_delivery, is_listening, news_of}
 use Rattle.dccp_uses.specs.Sessions.{news_if, news_kept}
@@ -91,6 +91,12 @@ when_a_timer_runs :
     × (runs_in timers.Close (record { phase = phases.CloseReq; in_flight = false }) ≡ true)
     × (runs_in timers.TimeWait (record { phase = phases.TimeWait; in_flight = false }) ≡ true)
 when_a_timer_runs = (refl, refl, refl, refl, refl, refl, refl, refl, refl)
+
+-- A timer is idle if it does not run, and its phase does not have it.
+which_timers_are_idle :
+    (is_idle no_alarms timers.Close phases.Open ≡ true) × (is_idle no_alarms timers.Close phases.Closing ≡ false)
+    × (is_idle running timers.Close phases.Open ≡ false) × (is_idle no_alarms timers.Rto phases.Open ≡ false)
+which_timers_are_idle = (refl, refl, refl, refl)
 
 -- What runs and is needed goes on, what is not needed stops, and what is needed and does not run begins with its first wait.
 timers_as_an_end_needs_them :
