@@ -23,7 +23,7 @@ use Rattle.tool_text.specs.declared.output.status.JobEnd.{JobEnd}
 use Rattle.tool_text.specs.declared.output.status.JobEnd.TheVariants as ended
 use Rattle.packet_show.specs.CaptureText.{first_tally, counted_record, tallied, record_text, last_line, fault_line, text_from, size_of, end_of_records, capture_text, is_faulty, records_end}
 use Rattle.packet_show.specs.Show.{Turns, Closes, ShowsHeaderFault, ShowsRecords, shown_text}
-use Rattle.tool_text.specs.Ends.{HasBegun, IsCutOff, Answers, IsMovedOut}
+use Rattle.tool_text.specs.Ends.{HasBegun, IsCutOff, Answers, EndsForCause, IsMovedOut}
 use Rattle.tool_text.proofs.Ending.{append-twice, begun-longer, begun-after, none-left, not-both, answers-early, on-ok, unwritten}
 
 -- the text of what is left
@@ -260,6 +260,23 @@ closes-cut text more end before middle after first begun = record {
   done = λ is. cc is;
   input = λ is. cc is;
 }
+
+-- no line follows the text, of which a prefix was written
+pub closes-early : (text more : List ℕ) (end : Option CaptureFault) (result : JobEnd) (before after : Option (List ℕ)) → IsCutOff result
+    → HasBegun before after text → Closes (text ++ more) end result before after
+closes-early text more end result before after off begun = record {
+  whole = λ answered. absurd (not-both result answered off);
+  front = λ _. begun-longer before after text more begun;
+  done = λ is. absurd (not-both result (inl is) off);
+  input = λ is. absurd (not-both result (inr is) off);
+}
+
+-- why a job ends with Write or Memory
+pub write-for : {source sink : Type 0} → sink → EndsForCause ended.Write source sink
+write-for failed = record { read = λ is. cc is; write = λ _. failed; complete = λ _ fine. absurd (fine failed) }
+
+pub memory-for : {source sink : Type 0} → EndsForCause ended.Memory source sink
+memory-for = record { read = λ is. cc is; write = λ is. cc is; complete = λ _ _. inr refl }
 
 -- a refused file header, by its fault
 pub refused-as : (why : CaptureFault) (result : JobEnd) (before after : Option (List ℕ)) → (why ≡ ReadFault → ⊥) → (why ≡ NoMemory → ⊥)

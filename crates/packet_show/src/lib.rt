@@ -18,7 +18,7 @@ mod show;
 
 pub use crate::flows::{FlowEnd, Flows, Shown, from_end};
 pub use crate::laws::a_flow_has_both_directions;
-pub use crate::names::{sum_name, type_name};
+pub use crate::names::{option_name, sum_name, type_name};
 pub use crate::network::{Datagram, carried};
 pub use crate::numbers::{put_from, put_to};
 pub use crate::options::{put_mark, put_option};

@@ -52,26 +52,28 @@ pub(crate) enum OptionForm {
     Numbered,
 }
 
-pub(crate) fn option_name(kind: u8) -> &'static [u8]
+/// The name of an option by its type (RFC 4340, section 5.8): `ccid` for one that belongs to a CCID, and `option` for one
+/// that has no name.
+pub fn option_name(kind: u8) -> &'static str
     ensures { result.now ≡ option_name kind }
 {
     match kind {
-        kinds::SLOW_RECEIVER => b"slow-receiver",
-        kinds::CHANGE_L => b"change-l",
-        kinds::CONFIRM_L => b"confirm-l",
-        kinds::CHANGE_R => b"change-r",
-        kinds::CONFIRM_R => b"confirm-r",
-        kinds::INIT_COOKIE => b"init-cookie",
-        kinds::NDP_COUNT => b"ndp-count",
-        kinds::ACK_VECTOR_0 => b"ack-vector-0",
-        kinds::ACK_VECTOR_1 => b"ack-vector-1",
-        kinds::DATA_DROPPED => b"data-dropped",
-        kinds::TIMESTAMP => b"timestamp",
-        kinds::TIMESTAMP_ECHO => b"timestamp-echo",
-        kinds::ELAPSED_TIME => b"elapsed-time",
-        kinds::DATA_CHECKSUM => b"data-checksum",
-        FIRST_OF_CCIDS..=255 => b"ccid",
-        _ => b"option",
+        kinds::SLOW_RECEIVER => "slow-receiver",
+        kinds::CHANGE_L => "change-l",
+        kinds::CONFIRM_L => "confirm-l",
+        kinds::CHANGE_R => "change-r",
+        kinds::CONFIRM_R => "confirm-r",
+        kinds::INIT_COOKIE => "init-cookie",
+        kinds::NDP_COUNT => "ndp-count",
+        kinds::ACK_VECTOR_0 => "ack-vector-0",
+        kinds::ACK_VECTOR_1 => "ack-vector-1",
+        kinds::DATA_DROPPED => "data-dropped",
+        kinds::TIMESTAMP => "timestamp",
+        kinds::TIMESTAMP_ECHO => "timestamp-echo",
+        kinds::ELAPSED_TIME => "elapsed-time",
+        kinds::DATA_CHECKSUM => "data-checksum",
+        FIRST_OF_CCIDS..=255 => "ccid",
+        _ => "option",
     }
 }
 

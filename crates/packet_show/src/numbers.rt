@@ -9,13 +9,21 @@ use dccp_packets::Number;
 use dccp_sum::Pseudo;
 use itoa::Buffer;
 use seq_circle::NoMemory;
-use tool_text::{put, put_number, put_v4};
+use tool_text::{put, put_counted, put_named, put_v4};
 
 const MICROSECOND_DIGITS: usize = 6;
 
 const NANOSECOND_DIGITS: usize = 9;
 
 const ZEROS: &[u8] = b"000000000";
+
+// The leading zeros of these digits, up to `width` digits.
+fn zeros_before(width: usize, digits: &[u8]) -> &'static [u8]
+    requires { width ≤ 9 }
+    ensures { result.now ≡ zeros_before width digits.now }
+{
+    &ZEROS[..width.saturating_sub(digits.len())]
+}
 
 // Puts a number in decimal, with leading zeros up to `width` digits.
 fn put_padded(text: &mut Vec<u8>, width: usize, number: u32) -> Result<(), NoMemory>
@@ -25,8 +33,7 @@ fn put_padded(text: &mut Vec<u8>, width: usize, number: u32) -> Result<(), NoMem
 {
     let mut buffer = Buffer::new();
     let digits = buffer.format(number).as_bytes();
-    put(text, &ZEROS[..width.saturating_sub(digits.len())])?;
-    put(text, digits)
+    put_named(text, zeros_before(width, digits), digits)
 }
 
 /// Puts a fraction of a second: six digits of microseconds, or nine of nanoseconds.
@@ -113,13 +120,14 @@ pub fn put_to(text: &mut Vec<u8>, pseudo: &Pseudo) -> Result<(), NoMemory>
     }
 }
 
-/// Puts a sequence or acknowledgement number, in the form that it has.
-pub(crate) fn put_sequence(text: &mut Vec<u8>, number: Number) -> Result<(), NoMemory>
-    ensures ok { OnOk result (text.new.items ≡ text.old.items ++ number_text number) }
+/// Puts a sequence or acknowledgement number after its word, in the form that it has.
+#[inline(always)]
+pub(crate) fn put_sequence(text: &mut Vec<u8>, word: &[u8], number: Number) -> Result<(), NoMemory>
+    ensures ok { OnOk result (text.new.items ≡ text.old.items ++ (word.now ++ number_text number)) }
     ensures front { Keeps text.old.items text.new.items }
 {
     match number {
-        Number::Long(number) => put_number(text, number.get()),
-        Number::Short(number) => put_number(text, u64::from(number.get())),
+        Number::Long(number) => put_counted(text, word, number.get()),
+        Number::Short(number) => put_counted(text, word, u64::from(number.get())),
     }
 }

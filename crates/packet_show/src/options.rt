@@ -33,7 +33,7 @@ fn put_feature(text: &mut Vec<u8>, kind: u8, body: &[u8]) -> Result<(), NoMemory
 {
     match body {
         [] => put_numbered(text, b"option", kind, body),
-        [feature, rest @ ..] => put_numbered(text, option_name(kind), *feature, rest),
+        [feature, rest @ ..] => put_numbered(text, option_name(kind).as_bytes(), *feature, rest),
     }
 }
 
@@ -43,15 +43,16 @@ pub fn put_option(text: &mut Vec<u8>, kind: u8, body: &[u8]) -> Result<(), NoMem
     ensures ok { OnOk result (text.new.items ≡ text.old.items ++ option_text kind body.now) }
     ensures front { Keeps text.old.items text.new.items }
 {
+    let name = option_name(kind).as_bytes();
     match option_form(kind) {
-        OptionForm::Bare => put(text, option_name(kind)),
+        OptionForm::Bare => put(text, name),
         OptionForm::Data => {
-            put(text, option_name(kind))?;
+            put(text, name)?;
             put(text, b" ")?;
             put_hex_or_dash(text, body)
         }
         OptionForm::Feature => put_feature(text, kind, body),
-        OptionForm::Numbered => put_numbered(text, option_name(kind), kind, body),
+        OptionForm::Numbered => put_numbered(text, name, kind, body),
     }
 }
 
@@ -61,8 +62,10 @@ pub fn put_mark(text: &mut Vec<u8>, mandatory: bool) -> Result<(), NoMemory>
     ensures ok { OnOk result (text.new.items ≡ text.old.items ++ mark_text mandatory) }
     ensures front { Keeps text.old.items text.new.items }
 {
-    let mark: &[u8] = if mandatory { b"mandatory " } else { b"" };
-    put(text, mark)
+    if mandatory {
+        return put(text, b"mandatory ");
+    }
+    put(text, b"")
 }
 
 fn put_item(text: &mut Vec<u8>, item: &Result<Opt<'_>, OptFault>) -> Result<(), NoMemory>

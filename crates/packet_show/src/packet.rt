@@ -2,11 +2,10 @@
 #![tactic(auto, using(tool_text::proofs::Keeping::keeps_itself, tool_text::proofs::Keeping::keeps_on))]
 
 ghost use Rattle.std.specs.Prelude.{◌≡◌, ◌≤◌, ◌++◌, length, OnOk};
-ghost use Rattle.dccp_packets.specs.declared.header.Number.TheVariants.{Long};
 ghost use Rattle.capture_reader.specs.Records.{entry_of};
 ghost use Rattle.tool_text.specs.Text.{Keeps};
 ghost use Rattle.packet_show.specs.Network.{carried_by};
-ghost use Rattle.packet_show.specs.Text.{ack_text, service_text, code_text, kind_text};
+ghost use Rattle.packet_show.specs.Text.{ack_text, code_text, kind_text};
 ghost use Rattle.packet_show.specs.Lines.{stamp_text, sender_text, receiver_text, header_text, sum_text, rest_text, packet_line, malformed_line, parts_by, words_text};
 
 use crate::names::{sum_name, type_name};
@@ -16,7 +15,7 @@ use crate::options::put_options;
 use capture_reader::Record;
 use dccp_packets::{Header, Kind, Malformed, Number, Packet};
 use dccp_sum::check;
-use seq_circle::{NoMemory, Seq48};
+use seq_circle::NoMemory;
 use tool_text::{malformed_name, put, put_counted, put_named, put_number};
 
 fn put_stamp(text: &mut Vec<u8>, item: &Record<'_>) -> Result<(), NoMemory>
@@ -61,22 +60,7 @@ fn put_ack(text: &mut Vec<u8>, ack: Number) -> Result<(), NoMemory>
     ensures ok { OnOk result (text.new.items ≡ text.old.items ++ ack_text ack) }
     ensures front { Keeps text.old.items text.new.items }
 {
-    put(text, b" ack ")?;
-    put_sequence(text, ack)
-}
-
-fn put_long_ack(text: &mut Vec<u8>, ack: Seq48) -> Result<(), NoMemory>
-    ensures ok { OnOk result (text.new.items ≡ text.old.items ++ ack_text (Long ack)) }
-    ensures front { Keeps text.old.items text.new.items }
-{
-    put_ack(text, Number::Long(ack))
-}
-
-fn put_service(text: &mut Vec<u8>, service: u32) -> Result<(), NoMemory>
-    ensures ok { OnOk result (text.new.items ≡ text.old.items ++ service_text service) }
-    ensures front { Keeps text.old.items text.new.items }
-{
-    put_counted(text, b" service ", u64::from(service))
+    put_sequence(text, b" ack ", ack)
 }
 
 // Puts a Reset's code and its bytes Data 1 to 3.
@@ -96,22 +80,19 @@ fn put_kind(text: &mut Vec<u8>, kind: &Kind) -> Result<(), NoMemory>
     ensures front { Keeps text.old.items text.new.items }
 {
     match *kind {
-        Kind::Request { service } => put_service(text, service),
+        Kind::Request { service } => put_counted(text, b" service ", u64::from(service)),
         Kind::Response { ack, service } => {
-            put_long_ack(text, ack)?;
-            put_service(text, service)
+            put_ack(text, Number::Long(ack))?;
+            put_counted(text, b" service ", u64::from(service))
         }
         Kind::Data => Ok(()),
-        Kind::Ack { ack } => put_ack(text, ack),
-        Kind::DataAck { ack } => put_ack(text, ack),
-        Kind::CloseReq { ack } => put_long_ack(text, ack),
-        Kind::Close { ack } => put_long_ack(text, ack),
+        Kind::Ack { ack } | Kind::DataAck { ack } => put_ack(text, ack),
+        Kind::CloseReq { ack } | Kind::Close { ack } | Kind::Sync { ack } | Kind::SyncAck { ack } =>
+            put_ack(text, Number::Long(ack)),
         Kind::Reset { ack, code, detail } => {
-            put_long_ack(text, ack)?;
+            put_ack(text, Number::Long(ack))?;
             put_code(text, code, detail)
         }
-        Kind::Sync { ack } => put_long_ack(text, ack),
-        Kind::SyncAck { ack } => put_long_ack(text, ack),
     }
 }
 
@@ -120,8 +101,7 @@ fn put_header(text: &mut Vec<u8>, header: &Header) -> Result<(), NoMemory>
     ensures front { Keeps text.old.items text.new.items }
 {
     put_named(text, b" ", type_name(header.kind.packet_type()))?;
-    put(text, b" seq ")?;
-    put_sequence(text, header.number)?;
+    put_sequence(text, b" seq ", header.number)?;
     put_kind(text, &header.kind)
 }
 

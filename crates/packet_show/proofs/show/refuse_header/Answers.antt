@@ -1,11 +1,20 @@
 -- A fault of the header's bytes.
-use Rattle.std.proofs.Common.{◌≡◌, ◌∙◌, ap, ◌++◌, List, ℕ, Some, subst}
+use Rattle.std.proofs.Common.{◌≡◌, ◌∙◌, ap, refl, ◌++◌, List, ℕ, Some, subst}
 use Rattle.packet_show.specs.declared.show.Tally.{Tally}
 use Rattle.packet_show.specs.CaptureText.{last_line, fault_line, first_tally}
 use Rattle.packet_show.specs.Show.{Closes}
-use Rattle.packet_show.proofs.Showing.{refused-as}
+use Rattle.packet_show.proofs.Showing.{memory-for, refused-as}
 use Rattle.tool_text.proofs.Ending.{ends-for-more}
 use Rattle.packet_show.proofs.show.refuse_header.Goals as goal
+
+pub returns-in-ReadFault-clause-refuses : goal.returns-in-ReadFault-clause-refuses
+returns-in-ReadFault-clause-refuses g c = rw c.in-ReadFault.is (refl, refl)
+
+pub returns-in-NoMemory-clause-refuses : goal.returns-in-NoMemory-clause-refuses
+returns-in-NoMemory-clause-refuses g c = rw c.in-NoMemory.is (refl, refl)
+
+pub returns-in-NoMemory-clause-cause : goal.returns-in-NoMemory-clause-cause
+returns-in-NoMemory-clause-cause g c = memory-for
 
 pub returns-in_default : goal.returns-in_default
 returns-in_default g c =
