@@ -108,6 +108,7 @@ impl OngoingRun {
         self.play_drawn(again, a, b)
     }
 
+    // Plays `more` further events.
     fn go_on_with(&mut self, again: &mut EventKit, more: u32) -> Result<(), NoMemory>
         requires { size self.old.report + 2 * more < 2 ^ 62 }
         ensures { OnOk result (self.new ≡ goes_on_for more self.old) }
@@ -116,20 +117,6 @@ impl OngoingRun {
             self.go_on(again)?;
         }
         Ok(())
-    }
-
-    // Plays `more` further events.
-    fn go_on_for(&mut self, more: u32) -> Result<(), NoMemory>
-        requires { size self.old.report + 2 * more < 2 ^ 62 }
-        ensures { OnOk result (self.new ≡ goes_on_for more self.old) }
-    {
-        let mut again = EventKit {
-            delivery: Event::Open,
-            timer: Event::Open,
-            sending: Event::Open,
-            preference: Event::Open,
-        };
-        self.go_on_with(&mut again, more)
     }
 
     fn open(&mut self) -> Result<(), NoMemory>
@@ -215,14 +202,14 @@ impl OngoingRun {
     }
 
     // All events of a run that has just begun.
-    fn play_all(&mut self, events: u32) -> Result<Report, NoMemory>
+    fn play_all(&mut self, again: &mut EventKit, events: u32) -> Result<Report, NoMemory>
         requires some { 1 ≤ events }
         requires few { size self.old.report + 2 * events < 2 ^ 62 }
         ensures { (seed : ℕ) → self.old ≡ begun_run (generator seed)
             → IfOk result (λ report. report ≡ seeded_report seed events) }
     {
         self.open()?;
-        self.go_on_for(events - 1)?;
+        self.go_on_with(again, events - 1)?;
         Ok(self.report(events))
     }
 
@@ -240,14 +227,25 @@ impl OngoingRun {
     }
 }
 
-// An event of each kind, which is played again and again with other parts. An event is large, since it has room for
-// data, and a new one would clear that room.
+// An event of each kind, which is played again and again with other parts, in one run after another. An event is large,
+// since it has room for data, and a new one would clear that room.
 #[derive(Drop)]
-struct EventKit {
+pub(crate) struct EventKit {
     delivery: Event,
     timer: Event,
     sending: Event,
     preference: Event,
+}
+
+impl EventKit {
+    pub(crate) fn new() -> EventKit {
+        EventKit {
+            delivery: Event::Open,
+            timer: Event::Open,
+            sending: Event::Open,
+            preference: Event::Open,
+        }
+    }
 }
 
 // The usual end with another initial number.
@@ -325,6 +323,19 @@ pub fn run_seed(alloc: Global, seed: u64, events: u32) -> Result<Report, NoMemor
     requires events { 1 ≤ events × events ≤ 4096 }
     ensures value { IfOk result (λ report. report ≡ seeded_report seed events) }
 {
+    run_seed_with(alloc, &mut EventKit::new(), seed, events)
+}
+
+// The same with events that earlier runs have used.
+pub(crate) fn run_seed_with(
+    alloc: Global,
+    again: &mut EventKit,
+    seed: u64,
+    events: u32,
+) -> Result<Report, NoMemory>
+    requires events { 1 ≤ events × events ≤ 4096 }
+    ensures value { IfOk result (λ report. report ≡ seeded_report seed events) }
+{
     let mut run = OngoingRun::of_seed(alloc, seed)?;
-    run.play_all(events)
+    run.play_all(again, events)
 }

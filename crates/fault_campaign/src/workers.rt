@@ -8,7 +8,8 @@ ghost use Rattle.std.specs.Thread.{IsSync};
 ghost use Rattle.fault_campaign.specs.Reports.{size};
 ghost use Rattle.fault_campaign.specs.Totals.{CanWork, HaveWorked, MayBegin, both_reports, totals};
 
-use crate::{Report, run_seed};
+use crate::Report;
+use crate::run::{EventKit, run_seed_with};
 use campaign_claims::{
     Claimer, Claims, Gate, a_claim_in_vain_ends_the_numbers, make_claims, numbers_once_add_up,
 };
@@ -37,8 +38,9 @@ fn work<G: Gate>(
 {
     let mut claimer = claimer;
     let mut report = Report::nothing();
+    let mut again = EventKit::new();
     while let Some(index) = claimer.begin(claims, gate) {
-        match run_seed(alloc, job.first + index, job.events) {
+        match run_seed_with(alloc, &mut again, job.first + index, job.events) {
             Ok(one) => report = report.plus(&one),
             Err(none) => return (claimer, Err(none)),
         }

@@ -1,6 +1,6 @@
 use Rattle.std.proofs.Common.{rules}
 use Rattle.fault_campaign.proofs.Turns.{starts-little}
-use Rattle.fault_campaign.proofs.run.run_seed.Goals as goal
+use Rattle.fault_campaign.proofs.run.run_seed_with.Goals as goal
 
 pub play_all-requires : goal.play_all-requires
 play_all-requires c =
