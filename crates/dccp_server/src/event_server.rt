@@ -61,7 +61,7 @@ fn leaver_life(server: &Server, peer: Peer, bytes: &[u8], now: u64) -> Option<Li
     }
     let returned = server.returned(peer, bytes, now);
     let rules = rules_of_opening(server.rules(), &returned);
-    match server.leaver_by(&rules, time_of_opening(now, &returned)) {
+    match server.leaver(&rules, time_of_opening(now, &returned)) {
         Some(leaver) => Some(server.life(leaver)),
         None => None,
     }

@@ -656,15 +656,8 @@ impl Server {
         true
     }
 
-    /// The flow that makes room for a Request at a full table, if one may.
-    pub fn leaver(&self, now: u64) -> Option<Peer>
-        ensures { result ≡ who_leaves now self.now.rules self.now.room }
-    {
-        self.leaver_by(&self.rules, now)
-    }
-
-    /// The same by these rules.
-    pub(crate) fn leaver_by(&self, rules: &Rules, now: u64) -> Option<Peer>
+    /// The flow that makes room for a Request at a full table by these rules, if one may.
+    pub(crate) fn leaver(&self, rules: &Rules, now: u64) -> Option<Peer>
         ensures { result ≡ who_leaves now rules.now self.now.room }
     {
         who_leaves(&self.timed, &self.lives, rules, now)
