@@ -45,37 +45,19 @@ pub struct Meeting {
 }
 
 impl Meeting {
-    ghost use Rattle.std.specs.Prelude.{◌≡◌, false, None, Ok, Some};
-    ghost use Rattle.dccp_listener.specs.declared.calls.Heard.TheVariants as heard;
-    ghost use Rattle.dccp_server.specs.Meeting.{MovesNobody};
+    ghost use Rattle.std.specs.Prelude.{◌≡◌, false, None};
 
-    // A Request was greeted, with this outcome.
-    pub(crate) fn greeted(outcome: Outcome) -> Meeting
-        ensures heard { result.arrival.heard ≡ Ok (Some (heard.Flow outcome)) }
-        ensures nobody { MovesNobody result.arrival.evicted result.arrival.anew result.made_room }
-        ensures way { result.way ≡ Way.Greeted }
-    {
-        Meeting {
-            arrival: ArrivalResult {
-                heard: Ok(Some(Heard::Flow(outcome))),
-                evicted: None,
-                anew: false,
-            },
-            way: Way::Greeted,
-            made_room: None,
-        }
-    }
-
-    // An opening came back, but could not be opened.
-    pub(crate) fn unopened(
+    // A datagram was met in this way, with this result, and was not served.
+    pub(crate) fn unserved(
         heard: Result<Option<Heard>, NoMemory>,
+        way: Way,
         made_room: Option<Peer>,
     ) -> Meeting
         ensures heard { result.arrival.heard ≡ heard }
         ensures evicted { result.arrival.evicted ≡ None }
         ensures anew { result.arrival.anew ≡ false }
         ensures room { result.made_room ≡ made_room }
-        ensures way { result.way ≡ Way.Unopened }
+        ensures way { result.way ≡ way }
     {
         Meeting {
             arrival: ArrivalResult {
@@ -83,7 +65,7 @@ impl Meeting {
                 evicted: None,
                 anew: false,
             },
-            way: Way::Unopened,
+            way,
             made_room,
         }
     }
@@ -96,57 +78,7 @@ pub(crate) fn leave_out(heard: Result<Option<Heard>, NoMemory>, out: &mut Outbox
     ensures way { result.way ≡ Way.Unanswered }
 {
     out.clear();
-    Meeting {
-        arrival: ArrivalResult {
-            heard,
-            evicted: None,
-            anew: false,
-        },
-        way: Way::Unanswered,
-        made_room: None,
-    }
-}
-
-// A fresh end hears the Request of an opening.
-fn greet(
-    timed: &TimedListener,
-    peer: Peer,
-    opening: &FirstRequest,
-    out: &mut Outbox,
-) -> Result<Outcome, NoMemory>
-    ensures sent { OnOk result (out.new ≡ (greets timed.now.listening peer opening.now.iss (request_bytes (route_of timed.now.listening.config peer) opening.now)).frame) }
-    ensures told { IfOk result (λ outcome. outcome ≡ (greets timed.now.listening peer opening.now.iss (request_bytes (route_of timed.now.listening.config peer) opening.now)).answer) }
-    ensures unmet { OnErr result (out.new ≡ None) }
-{
-    let request = request_of(timed, peer, opening);
-    match timed.greet(peer, opening.iss(), request.bytes(), out) {
-        Ok(outcome) => Ok(outcome),
-        Err(fault) => Err(fault),
-    }
-}
-
-// The Request of an opening, spelled again.
-fn request_of(timed: &TimedListener, peer: Peer, opening: &FirstRequest) -> Frame
-    ensures { result ≡ request_bytes (route_of timed.now.listening.config peer) opening.now }
-{
-    let route = route_of(timed.config(), peer);
-    let mut request = Frame::new();
-    put_request(&route, opening, &mut request);
-    request
-}
-
-// Adds the cookie of an opening to the frame in the box.
-fn put_cookie(
-    timed: &TimedListener,
-    keys: &CookieKeys,
-    peer: Peer,
-    opening: &FirstRequest,
-    out: &mut Outbox,
-)
-    ensures { out.new ≡ appended (reversed (route_of timed.now.listening.config peer).pseudo) (spelled false 36 (cookie_bytes keys.now (route_of timed.now.listening.config peer) opening.now)) out.old }
-{
-    let route = route_of(timed.config(), peer);
-    append_cookie(keys, &route, opening, out);
+    Meeting::unserved(heard, Way::Unanswered, None)
 }
 
 /// A Request is answered with a cookie, and no flow is made. Returns the outcome of a fresh end, which does not take
@@ -162,7 +94,10 @@ pub(crate) fn greet_with_cookie(
     ensures told { IfOk result (λ outcome. outcome ≡ (greets timed.now.listening peer opening.now.iss (request_bytes (route_of timed.now.listening.config peer) opening.now)).answer) }
     ensures unmet { OnErr result (out.new ≡ None) }
 {
-    let outcome = greet(timed, peer, opening, out)?;
-    put_cookie(timed, keys, peer, opening, out);
+    let route = route_of(timed.config(), peer);
+    let mut request = Frame::new();
+    put_request(&route, opening, &mut request);
+    let outcome = timed.greet(peer, opening.iss(), request.bytes(), out)?;
+    append_cookie(keys, &route, opening, out);
     Ok(outcome)
 }

@@ -10,7 +10,7 @@ use crate::timed_listener::TimedListener;
 use crate::upkeep::Upkeep;
 use ccid_two::Kinds;
 use dccp_endpoint::{Endpoint, Outbox, Seen, Seq48, UserCall};
-use dccp_listener::{ListenConfig, NoFlow, Peer};
+use dccp_listener::{Heard, ListenConfig, NoFlow, Peer};
 use dccp_packets::Frame;
 use dccp_uses::{Due, Pace, Reader, Restraint, due_rule, is_taken, restraint_of};
 use init_cookies::{CookieKeys, FirstRequest, put_request};
@@ -371,7 +371,7 @@ impl Server {
         match greet_with_cookie(&self.timed, &keys, peer, opening, out) {
             Ok(outcome) => {
                 if is_taken(&outcome) {
-                    Meeting::greeted(outcome)
+                    Meeting::unserved(Ok(Some(Heard::Flow(outcome))), Way::Greeted, None)
                 } else {
                     self.serve(peer, iss, bytes, now, out)
                 }
@@ -398,11 +398,11 @@ impl Server {
         let first = self.reopen(peer, opening, now, out);
         if let Err(fault) = first.heard {
             out.clear();
-            return Meeting::unopened(Err(fault), first.evicted);
+            return Meeting::unserved(Err(fault), Way::Unopened, first.evicted);
         }
         if !self.has_flow(peer) {
             out.clear();
-            return Meeting::unopened(Ok(None), first.evicted);
+            return Meeting::unserved(Ok(None), Way::Unopened, first.evicted);
         }
         let mut meeting = self.serve(peer, iss, bytes, now, out);
         meeting.way = Way::Reopened;
