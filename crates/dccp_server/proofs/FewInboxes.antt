@@ -9,7 +9,6 @@ use Rattle.data_dropped.specs.Inbox.{InboxState}
 use Rattle.data_dropped.specs.Intakes.{came_in, count_held, intake_of, without_first, without_listener}
 use Rattle.dccp_endpoint.specs.End.{last_taken}
 use Rattle.dccp_listener.specs.Peers.{FlowEnd, end_of_peer, is_peer, peer_cmp}
-use Rattle.dccp_listener.specs.Runs.{CallTold}
 use Rattle.dccp_listener.specs.declared.peer.Peer.{Peer}
 use Rattle.dccp_states.specs.declared.outcome.Outcome.TheVariants.{Took}
 use Rattle.server_peers.specs.Events.{data_told}

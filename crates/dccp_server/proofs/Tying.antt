@@ -16,7 +16,7 @@ use Rattle.dccp_endpoint.specs.Controlled.{EndStep}
 use Rattle.dccp_endpoint.specs.Inputs.{EndAnswer}
 use Rattle.dccp_listener.proofs.Computing.{computed_runs}
 use Rattle.dccp_listener.proofs.InOrder.{found_insert}
-use Rattle.dccp_listener.proofs.OnePeer.{peers_alike, peers_total}
+use Rattle.dccp_listener.proofs.OnePeer.{peers_alike}
 use Rattle.dccp_listener.specs.Calls.{Arrived}
 use Rattle.dccp_listener.specs.Chain.{Arrives, Calls, Deed, FlowCall, flow_step, fresh_end}
 use Rattle.dccp_listener.specs.Listens.{AreInOrder, fresh_met, is_table_full, listens_by}

@@ -17,7 +17,6 @@ use Rattle.dccp_server.specs.Rooms.{RuledRoom}
 use Rattle.server_peers.specs.declared.flow_event.EventKind.{EventKind}
 use Rattle.server_peers.specs.declared.flow_event.EventKind.TheVariants as kinds
 use Rattle.server_peers.specs.declared.flow_event.FlowEvent.{FlowEvent}
-use Rattle.dccp_states.specs.declared.outcome.Outcome.{Outcome}
 use Rattle.dccp_states.specs.declared.outcome.Outcome.TheVariants.{Took}
 
 -- For how many packets each inbox has room, with 0 if no flow has an inbox; how many inboxes there may be; and the inbox of each peer that has
