@@ -1,26 +1,38 @@
--- The handle and its parts own what a box at the same type owns.
-use mir.Syntax.{impl, tnil, dnil}
-use mathlib.Core.List.{[]}
-use denote.Signature.{Slot, plain}
-use Rattle.std_alloc.proofs.BoxSteps.Form.{Bx}
+-- The handle of an end, and the parts of its box.
+use mathlib.Core.Path.{refl, ap}
+use denote.RawPtr.{null_ptr}
+use Rattle.std.specs.Prelude.{Option, Some, None}
 use Rattle.std_heap.specs.contracts.Global as Heap
-use Rattle.std_heap.specs.contracts.GlobalAllocator.TheImpl.{ghosts, dict}
-use Rattle.std_heap.proofs.Global.TheLaws as heap
+use Rattle.std_heap.specs.contracts.GlobalAllocator.TheImpl.{ghosts}
+use Rattle.dccp_c.specs.Keeping.{Inner}
 use Rattle.dccp_c.specs.contracts.held.OwnedEnd as OwnedEnd
 use Rattle.dccp_c.proofs.held.OwnedEnd.TheLaws as held
 use Rattle.dccp_c.specs.contracts.kept.parts.Parts as Parts
 use Rattle.dccp_c.specs.contracts.kept.EndBox as EndBox
+use Rattle.dccp_c.proofs.Handles.{Handle, boxed}
 
-abbrev pub E : Bx
-E = record {
-  row = OwnedEnd.the_row;
-  laws = held.the_row_laws;
-  al =
-      record { row = Heap.the_row; laws = heap.the_row_laws; g = ghosts; d = dict; drops = impl [] tnil dnil };
-}
-
-abbrev pub FromParts : Slot 0
-FromParts = plain (λ _. Parts.the_row OwnedEnd.the_row Heap.the_row ghosts)
-
-abbrev pub FromEndBox : Slot 0
-FromEndBox = plain (λ _. EndBox.the_row)
+abbrev pub handle : Handle (boxed OwnedEnd.the_row held.the_row_laws)
+handle =
+    record {
+      name = EndBox.the_type.name;
+      row = EndBox.the_row;
+      parts_name = (Parts.the_type OwnedEnd.the_row Heap.the_row ghosts).name;
+      parts = Parts.the_row OwnedEnd.the_row Heap.the_row ghosts;
+      value = λ d. d.value;
+      given = λ p. p.value;
+      box_of = λ p. record { ptr = p.ptr; alloc = p.alloc; value = p.value };
+      handle_of = λ p. record { ptr = p.ptr; alloc = p.alloc; value = Some p.value };
+      parts_of = λ d x. record { ptr = d.ptr; alloc = d.alloc; value = x };
+      null_of = λ a. record { ptr = null_ptr; alloc = a; value = None };
+      keeps = λ p. refl;
+      gives = λ d x. refl;
+      is_null = λ a. refl;
+      is_kept = λ d x is. ap (λ (held : Option Inner). record d { value = held }) is;
+      parts_own = λ p vs. refl;
+      handle_owns = λ p vs. refl;
+      null_owns = λ a vs. refl;
+      last = λ d. tt;
+      silent = λ d f. refl;
+      parts_last = λ p. tt;
+      parts_silent = λ p f. refl;
+    }

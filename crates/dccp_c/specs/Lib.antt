@@ -14,7 +14,6 @@ pub mod FlowRequests
 pub mod Founding
 pub mod Framing
 pub mod Keeping
-pub mod KeepingListener
 pub mod LastSyncs
 pub mod Listening
 pub mod Making

@@ -50,7 +50,7 @@ use Rattle.dccp_c.specs.Outcomes.{told_arrival, told_heard, told_outcome}
 use Rattle.dccp_c.specs.declared.told.Told.{Told}
 use Rattle.dccp_c.specs.Codes.{restraint_code, timer_code}
 use Rattle.dccp_server.specs.Due.{never}
-use Rattle.dccp_c.specs.KeepingListener.{InnerListener}
+use Rattle.dccp_c.specs.Keeping.{InnerListener}
 use Rattle.dccp_c.specs.Seeing.{seen_within}
 use Rattle.dccp_c.specs.Telling.{is_short}
 use Rattle.dccp_c.specs.declared.peer.PeerAddress.{PeerAddress}

@@ -1,6 +1,6 @@
 //! A box that C holds, or none, as a pointer that says nothing about its target.
 ghost use Rattle.std.specs.Prelude.{◌≡◌, ◌≢◌, Some, None, Option};
-ghost use Rattle.dccp_c.specs.Keeping.{Inner, inner_coded, kept_owns};
+ghost use Rattle.dccp_c.specs.Keeping.{Inner, end_owned, inner_coded};
 
 mod parts;
 
@@ -27,7 +27,7 @@ pub struct EndBox {
 }
 
 impl Model for EndBox {
-    ghost also_owns = { λ k. kept_owns k.alloc k.ptr k.value };
+    ghost also_owns = { λ k. end_owned k.alloc k.ptr k.value };
 }
 
 impl EndBox {

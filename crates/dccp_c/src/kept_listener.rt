@@ -1,6 +1,6 @@
 //! A box with a listener that C holds, or none, as a pointer that says nothing about its target.
 ghost use Rattle.std.specs.Prelude.{◌≡◌, ◌≢◌, Some, None, Option};
-ghost use Rattle.dccp_c.specs.KeepingListener.{InnerListener, inner_listener_coded, listener_owns};
+ghost use Rattle.dccp_c.specs.Keeping.{InnerListener, inner_listener_coded, listener_owned};
 
 use crate::kept::{Opaque, Parts};
 use crate::serving::OwnedServer;
@@ -17,7 +17,7 @@ pub struct ListenerBox {
 }
 
 impl Model for ListenerBox {
-    ghost also_owns = { λ k. listener_owns k.alloc k.ptr k.value };
+    ghost also_owns = { λ k. listener_owned k.alloc k.ptr k.value };
 }
 
 impl ListenerBox {
