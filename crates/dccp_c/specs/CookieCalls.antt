@@ -9,8 +9,6 @@ use Rattle.server_peers.specs.Requests.{asking_of, cookie_read, opening_in}
 use Rattle.server_peers.specs.declared.asking.DatagramRequest.{DatagramRequest}
 use Rattle.server_peers.specs.declared.asking.DatagramRequest.TheVariants.{Nothing, TooLong, This}
 use Rattle.dccp_states.specs.declared.outcome.Outcome.{Outcome}
-use Rattle.dccp_sum.specs.declared.pseudo_header.Pseudo.{Pseudo}
-use Rattle.dccp_sum.specs.declared.pseudo_header.Pseudo.TheVariants.{V4, V6}
 use Rattle.dccp_uses.specs.Timed.{is_taken}
 use Rattle.dccp_uses.specs.declared.holding.Reading.{Reading}
 use Rattle.init_cookies.specs.Appending.{appended}
@@ -21,7 +19,7 @@ use Rattle.init_cookies.specs.declared.cookie.CookieKeys.{CookieKeys}
 use Rattle.init_cookies.specs.declared.route.Route.{Route}
 use Rattle.dccp_c.specs.Accepting.{first_heard}
 use Rattle.dccp_c.specs.Framing.{FrameFields, handed_of, nothing_handed}
-use Rattle.dccp_c.specs.Making.{first_four}
+use Rattle.dccp_c.specs.Making.{pseudo_of}
 use Rattle.dccp_c.specs.Stepping.{CStep}
 use Rattle.dccp_c.specs.Telling.{is_short}
 use Rattle.dccp_c.specs.declared.cookie_calls.KeyPair.{KeyPair}
@@ -32,13 +30,9 @@ use Rattle.dccp_c.specs.declared.making.Settings.{Settings}
 abbrev pub keys_of : KeyPair → CookieKeys
 keys_of pair = record { key = pair.key.bytes; before = pair.before.bytes; since = pair.since }
 
--- the addresses of what comes from the peer
-abbrev pub pseudo_from : Settings → Pseudo
-pseudo_from s = if s.is_v6 then V6 s.peer_address s.own_address else V4 (first_four s.peer_address) (first_four s.own_address)
-
 -- the route from the peer of these settings to their server (section 5.1)
 abbrev pub route_by : Settings → Route
-route_by s = record { pseudo = pseudo_from s; from = s.peer_port; to = s.own_port }
+route_by s = record { pseudo = reversed (pseudo_of s); from = s.peer_port; to = s.own_port }
 
 -- the Request was taken
 abbrev pub is_heard_so : Option Outcome → Bool

@@ -1,12 +1,13 @@
 -- What C gets from a call of an end (own; the steps are the end's).
-use Rattle.std.specs.Prelude.{ℕ, Bool, true, false, List, [], ◌∷◌, Option, Some, None, unwrap_or, if◌then◌else◌}
+use Rattle.std.specs.Prelude.{◌≡◌, ℕ, Bool, true, false, List, [], ◌∷◌, Option, Some, None, unwrap_or, if◌then◌else◌}
 use Rattle.data_dropped.specs.declared.drops.DropEntry.{DropEntry}
+use Rattle.dccp_listener.specs.Chain.{FlowCall}
 use Rattle.dccp_server.specs.Due.{never}
 use Rattle.dccp_uses.specs.Timed.{every_due, first_due_of, first_wait_left}
 use Rattle.dccp_uses.specs.declared.timed_end.Due.{Due}
 use Rattle.dccp_c.specs.Framing.{FrameFields, handed_of, nothing_handed}
 use Rattle.dccp_c.specs.Keeping.{Inner}
-use Rattle.dccp_c.specs.Stepping.{CDoing, CEnd, CStep, c_told}
+use Rattle.dccp_c.specs.Stepping.{CDoing, CEnd, CStep, c_acts, c_told}
 
 -- what is due is done, and the answer is true; if nothing is, nothing happens
 abbrev pub c_tells : ℕ → CEnd → Option Due → CStep Bool
@@ -51,17 +52,13 @@ abbrev pub code_after : {Answer : Type 0} → (Answer → ℕ) → CDoing Answer
 code_after code doing None = 1
 code_after code doing (Some s) = code (doing s).answer
 
--- A call that names a feature or a timer: if none has that number, nothing happens, no frame goes out, and the code says so.
-abbrev pub end_if_known : {Name Answer : Type 0} → (Name → CDoing Answer) → Option Name → Option CEnd → Option CEnd
-end_if_known doing None held = held
-end_if_known doing (Some name) held = kept_after (doing name) held
+-- The result of a call of an end for C: it is done, or there is no end, and the code is 1.
+abbrev pub CallsEnd : ℕ → Option CEnd → Option CEnd → FlowCall → FrameFields → ℕ → Type 0
+CallsEnd now None after call frame code = (after ≡ None) × (frame ≡ nothing_handed) × (code ≡ 1)
+CallsEnd now (Some s) after call frame code =
+    (after ≡ Some (c_acts call now s).after) × (frame ≡ handed_of (c_acts call now s).frame) × (code ≡ (c_acts call now s).answer)
 
--- the frame that such a call leaves
-abbrev pub frame_if_known : {Name Answer : Type 0} → (Name → CDoing Answer) → Option Name → Option CEnd → FrameFields
-frame_if_known doing None held = nothing_handed
-frame_if_known doing (Some name) held = frame_after (doing name) held
-
--- its code; this one says that there is none with that number
-abbrev pub code_if_known : {Name Answer : Type 0} → ℕ → (Answer → ℕ) → (Name → CDoing Answer) → Option Name → Option CEnd → ℕ
-code_if_known unknown code doing None held = unknown
-code_if_known unknown code doing (Some name) held = code_after code (doing name) held
+-- The same for a call that names a feature or a timer: if none has that number, nothing happens, no frame goes out, and this is the code.
+abbrev pub CallsEndIfKnown : ℕ → Option CEnd → Option CEnd → ℕ → Option FlowCall → FrameFields → ℕ → Type 0
+CallsEndIfKnown now before after unknown None frame code = (after ≡ before) × (frame ≡ nothing_handed) × (code ≡ unknown)
+CallsEndIfKnown now before after unknown (Some call) frame code = CallsEnd now before after call frame code

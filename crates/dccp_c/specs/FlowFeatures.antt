@@ -1,22 +1,14 @@
 -- What C gets about the features of a listener's flows (own).
-use Rattle.std.specs.Prelude.{◌≡◌, ℕ, List, Option, Some, None}
+use Rattle.std.specs.Prelude.{ℕ, Option, Some, None}
 use Rattle.std.specs.Option.{option_map}
-use Rattle.dccp_listener.specs.Chain.{Prefers}
 use Rattle.dccp_listener.specs.Peers.{end_of_peer}
 use Rattle.dccp_listener.specs.declared.peer.Peer.{Peer}
 use Rattle.dccp_server.specs.Rooms.{RuledRoom}
 use Rattle.feature_lists.specs.declared.features.Feature.{Feature}
 use Rattle.feature_lists.specs.declared.features.Place.{Place}
-use Rattle.dccp_c.specs.Framing.{FrameFields}
-use Rattle.dccp_c.specs.Listening.{OwnedServerState, IsUnserved, Serves, flow_code}
+use Rattle.dccp_c.specs.Listening.{flow_code}
 use Rattle.dccp_c.specs.Seeing.{seen_feature}
 use Rattle.dccp_c.specs.declared.readers.FeatureState.{FeatureState}
-
--- The result of a wish for a feature of a flow: if no feature has this number, nothing happens, and the code is 11; otherwise it is a call of
--- the peer's end.
-abbrev pub PrefersAt : ℕ → Option OwnedServerState → Option OwnedServerState → Peer → Option Feature → Place → List ℕ → FrameFields → ℕ → Type 0
-PrefersAt now before after peer None place values frame code = IsUnserved before after frame × (code ≡ 11)
-PrefersAt now before after peer (Some feature) place values frame code = Serves now before after peer (Prefers feature place values) frame code
 
 -- what the end of a peer holds for a feature, if there is a listener and the peer has an end
 abbrev pub feature_at_peer : Feature → Place → Option RuledRoom → Peer → Option FeatureState

@@ -4,7 +4,7 @@ use Rattle.dccp_endpoint.specs.declared.config.Config.{Config}
 use Rattle.dccp_listener.specs.declared.config.ListenConfig.{ListenConfig}
 use Rattle.dccp_c.specs.Accepting.{as_server}
 use Rattle.dccp_c.specs.Listening.{OwnedServerState}
-use Rattle.dccp_c.specs.Making.{configured_by, first_four}
+use Rattle.dccp_c.specs.Making.{configured_by, first_four, made_from}
 use Rattle.dccp_c.specs.declared.making.Care.{Care}
 use Rattle.server_peers.specs.Events.{no_events}
 use Rattle.dccp_server.specs.FlowInboxes.{no_inboxes}
@@ -42,22 +42,15 @@ listening_by s given wishes most =
     else if nat_lt 16 (length given) then Err 18 else if not (is_distinct given) then Err 18
     else listening_from s given most (configured_by (as_server s) wishes)
 
--- the server that was made, if the code says so; it follows the usual rules, and does this for its flows
-abbrev pub founded_from : Bool → Care → Result ListenConfig ℕ → Option OwnedServerState
-founded_from true care (Ok config) =
-    Some (record {
+-- a new server, which follows the usual rules, and does this for its flows
+abbrev pub founded_by : Care → ListenConfig → OwnedServerState
+founded_by care config =
+    record {
       watched = record { server = ruled_begins config care.pace usual_rules; events = no_events; is_shut = false };
       inboxes = no_inboxes care.most_held config.most;
       arrival = None;
-    })
-founded_from true care (Err code) = None
-founded_from false care _ = None
+    }
 
 -- what the handle holds once making has returned this code
 abbrev pub founded_of : ℕ → Care → Result ListenConfig ℕ → Option OwnedServerState
-founded_of code care config = founded_from (code == 0) care config
-
--- The code of making: that of the refusal, otherwise 0, or 2 if there is no memory.
-abbrev pub FoundsCode : Result ListenConfig ℕ → ℕ → Type 0
-FoundsCode (Ok config) code = (code ≡ 0) ⊎ (code ≡ 2)
-FoundsCode (Err refusal) code = code ≡ refusal
+founded_of code care config = made_from (founded_by care) (code == 0) config

@@ -3,7 +3,7 @@ use Rattle.std.specs.Prelude.{◌≡◌, ◌⊎◌, ℕ, ◌==◌, ◌^◌, nat_
 use Rattle.std.specs.Map.{keys_of}
 use Rattle.std.specs.Option.{option_map}
 use Rattle.data_dropped.specs.declared.answers.Arrival.{Arrival}
-use Rattle.dccp_listener.specs.Chain.{Calls, Fires, FlowCall, Sends}
+use Rattle.dccp_listener.specs.Chain.{Calls, FlowCall, Sends}
 use Rattle.dccp_listener.specs.Listens.{listens}
 use Rattle.dccp_listener.specs.Peers.{FlowEnd, end_of_peer}
 use Rattle.dccp_listener.specs.Runs.{CallTold, Stepped, WasBusy, HadNoMemory}
@@ -39,7 +39,6 @@ use Rattle.server_peers.specs.declared.rules.Rules.{Rules}
 use Rattle.dccp_c.specs.declared.flow_rules.FlowRules.{FlowRules}
 use Rattle.dccp_c.specs.declared.flow_rules.FlowLife.{FlowLife}
 use Rattle.dccp_listener.specs.declared.peer.Peer.{Peer}
-use Rattle.dccp_states.specs.declared.calls.Timer.{Timer}
 use Rattle.dccp_states.specs.declared.seen.Refusal.{Refusal}
 use Rattle.dccp_states.specs.declared.seen.Refusal.TheVariants as refusal
 use Rattle.dccp_states.specs.declared.seen.Seen.{Seen}
@@ -162,10 +161,10 @@ Serves now (Some s) after peer call frame code =
     × (frame ≡ left_to (holds_called now s peer call) peer (listens s.watched.server.room.served.listening peer (Calls call)).frame)
     × (code ≡ listen_code (listens s.watched.server.room.served.listening peer (Calls call)).told)
 
--- A timer of a peer's end fires, if one has this number; otherwise nothing happens, and the code is 16.
-abbrev pub FiresAt : ℕ → Option OwnedServerState → Option OwnedServerState → Peer → Option Timer → FrameFields → ℕ → Type 0
-FiresAt now before after peer None frame code = IsUnserved before after frame × (code ≡ 16)
-FiresAt now before after peer (Some timer) frame code = Serves now before after peer (Fires timer) frame code
+-- The same for a call that names a feature or a timer: if none has that number, nothing happens, and this is the code.
+abbrev pub ServesIfKnown : ℕ → Option OwnedServerState → Option OwnedServerState → Peer → ℕ → Option FlowCall → FrameFields → ℕ → Type 0
+ServesIfKnown now before after peer unknown None frame code = IsUnserved before after frame × (code ≡ unknown)
+ServesIfKnown now before after peer unknown (Some call) frame code = Serves now before after peer call frame code
 
 -- why data to a peer have to wait, if there is a listener and the peer has a flow
 abbrev pub restraint_in : Option RuledRoom → Peer → Option Restraint

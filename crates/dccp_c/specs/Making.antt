@@ -125,17 +125,17 @@ care_by s = record { pace = pace_by s; most_held = most_held_by s }
 abbrev pub c_begins : Care → Config → CEnd
 c_begins care config = record { timed = timed_begins kinds_control config at_first care.pace; inbox = intake_of care.most_held; cookie = [] }
 
--- The end that was made: a new one if the code says so, otherwise none.
-abbrev pub made_from : Bool → Care → Result Config ℕ → Option CEnd
-made_from true care (Ok config) = Some (c_begins care config)
-made_from true care (Err code) = None
-made_from false care _ = None
+-- What was made of a configuration that was not refused, if the code of making says so.
+abbrev pub made_from : {Given Made : Type 0} → (Given → Made) → Bool → Result Given ℕ → Option Made
+made_from make true (Ok config) = Some (make config)
+made_from make true (Err code) = None
+made_from make false _ = None
 
--- what the handle holds once making has returned this code
+-- the end that the handle holds once making has returned this code
 abbrev pub made_of : ℕ → Care → Result Config ℕ → Option CEnd
-made_of code care config = made_from (code == 0) care config
+made_of code care config = made_from (c_begins care) (code == 0) config
 
 -- The code of making: that of the refusal, otherwise 0, or 2 if there is no memory.
-abbrev pub MakesCode : Result Config ℕ → ℕ → Type 0
+abbrev pub MakesCode : {Given : Type 0} → Result Given ℕ → ℕ → Type 0
 MakesCode (Ok config) code = (code ≡ 0) ⊎ (code ≡ 2)
 MakesCode (Err refusal) code = code ≡ refusal

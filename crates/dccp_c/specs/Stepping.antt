@@ -1,22 +1,16 @@
 -- What a call from C does to the end that a handle holds, and to its timers (own; the steps are the end's).
-use Rattle.std.specs.Prelude.{ℕ, Bool, List, Option, Result}
+use Rattle.std.specs.Prelude.{ℕ, Bool, List, Option}
 use Rattle.ccid_two.specs.Kinds.{Both, kinds_control}
+use Rattle.dccp_listener.specs.Chain.{Aborts, Closes, Fires, FlowCall, Opens, Prefers, Sends, SendsEarly}
 use Rattle.dccp_packets.specs.Outgoing.{Outgoing}
 use Rattle.data_dropped.specs.Inbox.{InboxState}
 use Rattle.data_dropped.specs.declared.drops.DropEntry.{DropEntry}
 use Rattle.dccp_uses.specs.DropRecord.{drop_recorded, record_after}
 use Rattle.dccp_uses.specs.Holding.{HoldingState, HoldingStep, holds_heard, steps_beside}
-use Rattle.dccp_uses.specs.Timed.{TimedState, due_told, timed_aborts, timed_closes, timed_fires, timed_takes, timed_opens, timed_prefers, timed_sends}
+use Rattle.dccp_uses.specs.Timed.{TimedState, TimedStep, due_told, timed_aborts, timed_closes, timed_fires, timed_takes, timed_opens, timed_prefers, timed_sends}
 use Rattle.dccp_uses.specs.declared.holding.Reading.{Reading}
-use Rattle.dccp_uses.specs.declared.reader.SendRefusal.{SendRefusal}
 use Rattle.dccp_uses.specs.declared.timed_end.Due.{Due}
-use Rattle.dccp_states.specs.declared.calls.AbortFault.{AbortFault}
-use Rattle.dccp_states.specs.declared.calls.CloseFault.{CloseFault}
-use Rattle.dccp_states.specs.declared.calls.OpenFault.{OpenFault}
-use Rattle.dccp_states.specs.declared.calls.Timer.{Timer}
-use Rattle.feature_lists.specs.declared.features.Feature.{Feature}
-use Rattle.feature_lists.specs.declared.features.Place.{Place}
-use Rattle.feature_lists.specs.declared.wishes.PreferFault.{PreferFault}
+use Rattle.dccp_c.specs.Codes.{abort_code, close_code, open_code, send_code, timer_code, wish_code}
 
 -- an end in C is that of a session, with CCID 2 or the fixed window
 abbrev pub CEnd : Type 0
@@ -32,10 +26,6 @@ pub record CStep (Answer : Type 0) : Type 0 where
 abbrev pub CDoing : Type 0 → Type 0
 CDoing Answer = CEnd → CStep Answer
 
--- what a call that may be refused does to an end
-abbrev pub CCall : Type 0 → Type 0
-CCall Fault = CDoing (Result (Unit {0}) Fault)
-
 -- what a call has done
 abbrev pub done : {Answer : Type 0} → TimedState Both → Option InboxState → List ℕ → Option Outgoing → Answer → CStep Answer
 done s inbox cookie frame answer = record { after = record { timed = s; inbox = inbox; cookie = cookie }; frame = frame; answer = answer }
@@ -44,33 +34,28 @@ done s inbox cookie frame answer = record { after = record { timed = s; inbox = 
 abbrev pub c_step : {Answer : Type 0} → HoldingStep Both Answer → CStep Answer
 c_step step = record { after = step.holding; frame = step.frame; answer = step.answer }
 
--- a client asks for its service (RFC 4340, section 8.1.1)
-abbrev pub c_opens : ℕ → CCall OpenFault
-c_opens now s = c_step (steps_beside s (timed_opens kinds_control now s.timed))
+-- a step of an end whose answer is told to C by its code
+abbrev coded : {Answer : Type 0} → (Answer → ℕ) → TimedStep Both Answer → TimedStep Both ℕ
+coded code step = record { timed = step.timed; frame = step.frame; answer = code step.answer }
 
--- data go out in PARTOPEN and OPEN, if the window has room (section 8.1.5) and the application that reads them leaves some
-abbrev pub c_sends : List ℕ → ℕ → CCall SendRefusal
-c_sends payload now s = c_step (steps_beside s (timed_sends kinds_control now s.timed payload))
+-- A call of an end by its owner, and its code: a client asks for its service, data go out, a feature is wished for, the connection is closed in
+-- order or given up, or a timer has run out (RFC 4340, sections 8.1.1, 8.1.5, 6.6.1 and 8.3). Data also go out early, with the Request.
+abbrev pub timed_acts : FlowCall → ℕ → TimedState Both → TimedStep Both ℕ
+timed_acts Opens now s = coded open_code (timed_opens kinds_control now s)
+timed_acts (Sends payload) now s = coded send_code (timed_sends kinds_control now s payload)
+timed_acts (SendsEarly payload) now s = coded send_code (timed_sends kinds_control now s payload)
+timed_acts (Prefers feature place values) now s = coded wish_code (timed_prefers kinds_control now s feature place values)
+timed_acts Closes now s = coded close_code (timed_closes kinds_control now s)
+timed_acts Aborts now s = coded abort_code (timed_aborts kinds_control now s)
+timed_acts (Fires timer) now s = coded timer_code (timed_fires kinds_control now s timer)
 
--- the end wants these values for a feature (section 6.6.1)
-abbrev pub c_prefers : Feature → Place → List ℕ → ℕ → CCall PreferFault
-c_prefers feature place values now s = c_step (steps_beside s (timed_prefers kinds_control now s.timed feature place values))
-
--- a timer has run out: the end's own, or one that its owner keeps
-abbrev pub c_fires : Timer → ℕ → CDoing Bool
-c_fires timer now s = c_step (steps_beside s (timed_fires kinds_control now s.timed timer))
+-- the same beside its inbox and its cookie
+abbrev pub c_acts : FlowCall → ℕ → CDoing ℕ
+c_acts call now s = c_step (steps_beside s (timed_acts call now s.timed))
 
 -- the end does what is due
 abbrev pub c_told : Due → ℕ → CDoing Bool
 c_told it now s = c_step (steps_beside s (due_told kinds_control now s.timed it))
-
--- the connection is closed in order (section 8.3)
-abbrev pub c_closes : ℕ → CCall CloseFault
-c_closes now s = c_step (steps_beside s (timed_closes kinds_control now s.timed))
-
--- the connection is given up (section 8.3)
-abbrev pub c_aborts : ℕ → CCall AbortFault
-c_aborts now s = c_step (steps_beside s (timed_aborts kinds_control now s.timed))
 
 -- a datagram arrives (section 8.5), and is heard or left out; data that it brings come into the inbox
 abbrev pub c_receives : List ℕ → ℕ → CDoing Reading

@@ -1,31 +1,29 @@
 //! The functions that C calls: each does one step of the end that its handle holds, and of its timers.
 ghost use Rattle.std.specs.Prelude.{◌≡◌, ◌==◌, ◌≤◌, None, Ok};
+ghost use Rattle.std.specs.Option.{option_map};
+ghost use Rattle.dccp_listener.specs.Chain.{Aborts, Closes, Fires, Opens, Prefers, Sends, asked};
 ghost use Rattle.feature_lists.specs.Features.{feature_numbered};
 ghost use Rattle.dccp_c.specs.Framing.{handed_in};
-ghost use Rattle.dccp_c.specs.Codes.{abort_code, close_code, open_code, place_by, send_code, timer_code, timer_coded, wish_code};
+ghost use Rattle.dccp_c.specs.Codes.{place_by, timer_code, timer_coded};
 ghost use Rattle.dccp_c.specs.Accepting.{AcceptsCode, accepted_end, as_server, accept_step, step_frame, step_told};
-ghost use Rattle.dccp_c.specs.Doing.{c_ticks, c_waits, code_after, code_if_known, drops_in, end_if_known, end_in, frame_after, frame_if_known, kept_after};
+ghost use Rattle.dccp_c.specs.Doing.{CallsEnd, CallsEndIfKnown, c_ticks, c_waits, code_after, drops_in, end_in, frame_after, kept_after};
 ghost use Rattle.dccp_c.specs.Making.{MakesCode, care_by, configured_by, made_of};
 ghost use Rattle.dccp_c.specs.Seeing.{path_after, feature_after, feature_code, if_sized, look_code, sized_code, view_after};
-ghost use Rattle.dccp_c.specs.Stepping.{c_aborts, c_closes, c_fires, c_opens, c_prefers, c_sends};
 ghost use Rattle.dccp_c.specs.Telling.{drops_heard, hear_code, hear_frame, hear_told, hears_if_short};
 
 use crate::codes::{
     DONE, NO_CONNECTION, NO_FEATURE, NO_MEMORY, NO_TIMER, NOT_MADE, NOTHING_DUE, OTHER_SIZE,
-    TOO_LONG, abort_code, close_code, feature_of, open_code, place_of, send_code, timer_code,
-    timer_of, wish_code,
+    TOO_LONG, feature_of, place_of, timer_of,
 };
 use crate::end::End;
 use crate::frame::Frame;
 use crate::making::{Care, as_server, care_by, configured_by};
 use crate::readers::{seen, seen_feature, seen_path};
 use crate::sizes::{ROUND_TRIP_VIEW_BYTES, VIEW_BYTES};
-use crate::steps::{
-    abort, close, fire, is_listening, new_end, open, prefer, receive, send, tell_due,
-};
-use crate::told::{Told, tell_reading};
+use crate::steps::{act, is_listening, new_end, receive, tell_due};
+use crate::told::{Told, told_reading};
 use crate::{FeatureState, RoundTripView, Settings, View, Wish};
-use dccp_endpoint::{Config, MOST_FRAME_BYTES};
+use dccp_endpoint::{Config, MOST_FRAME_BYTES, UserCall};
 use std::alloc::Global;
 
 /// Makes an end, in place of what the handle held, which is freed first. Refused with OTHER_SIZE if the settings begin
@@ -112,7 +110,7 @@ fn accept(
     let Ok(mut held) = new_end(alloc, config, care) else {
         return NO_MEMORY;
     };
-    tell_reading(&receive(&mut held, datagram, now), told);
+    *told = told_reading(&receive(&mut held, datagram, now));
     frame.fill(&held.out);
     if is_listening(&held) {
         return NO_CONNECTION;
@@ -129,22 +127,28 @@ pub extern "C" fn dccp_free(end: &mut End, alloc: Global)
     end.clear(alloc);
 }
 
+// A call of an end by its owner, for C.
+fn call(end: &mut End, alloc: Global, call: UserCall<'_>, now: u64, frame: &mut Frame) -> u32
+    ensures step { CallsEnd now (end_in end.old.kept.value) (end_in end.new.kept.value) (asked call.entry) (handed_in frame.new) result }
+    ensures drops { drops_in end.new.kept.value ≡ drops_in end.old.kept.value }
+{
+    frame.clear();
+    let Some(mut held) = end.take(alloc) else {
+        return NOT_MADE;
+    };
+    let code = act(&mut held, call, now);
+    frame.fill(&held.out);
+    end.put(held);
+    code
+}
+
 /// `Session::open` at `now`, in milliseconds as in each call. Returns DONE, NOT_MADE or NOT_FRESH.
 #[unsafe(no_mangle)]
 pub extern "C" fn dccp_open(end: &mut End, alloc: Global, now: u64, frame: &mut Frame) -> u32
-    ensures end { end_in end.new.kept.value ≡ kept_after (c_opens now) (end_in end.old.kept.value) }
+    ensures step { CallsEnd now (end_in end.old.kept.value) (end_in end.new.kept.value) Opens (handed_in frame.new) result }
     ensures drops { drops_in end.new.kept.value ≡ drops_in end.old.kept.value }
-    ensures frame { handed_in frame.new ≡ frame_after (c_opens now) (end_in end.old.kept.value) }
-    ensures code { result ≡ code_after open_code (c_opens now) (end_in end.old.kept.value) }
 {
-    let Some(mut held) = end.take(alloc) else {
-        frame.clear();
-        return NOT_MADE;
-    };
-    let answer = open(&mut held, now);
-    frame.fill(&held.out);
-    end.put(held);
-    open_code(&answer)
+    call(end, alloc, UserCall::Open, now, frame)
 }
 
 /// `Session::send`. Returns DONE, NOT_MADE, NOT_LISTENING, NOT_OPEN, TOO_LONG, NOT_NEGOTIATED or WINDOW_FULL.
@@ -156,55 +160,28 @@ pub extern "C" fn dccp_send(
     now: u64,
     frame: &mut Frame,
 ) -> u32
-    ensures end { end_in end.new.kept.value ≡ kept_after (c_sends payload.now now) (end_in end.old.kept.value) }
+    ensures step { CallsEnd now (end_in end.old.kept.value) (end_in end.new.kept.value) (Sends payload.now) (handed_in frame.new) result }
     ensures drops { drops_in end.new.kept.value ≡ drops_in end.old.kept.value }
-    ensures frame { handed_in frame.new ≡ frame_after (c_sends payload.now now) (end_in end.old.kept.value) }
-    ensures code { result ≡ code_after send_code (c_sends payload.now now) (end_in end.old.kept.value) }
 {
-    let Some(mut held) = end.take(alloc) else {
-        frame.clear();
-        return NOT_MADE;
-    };
-    let answer = send(&mut held, payload, now);
-    frame.fill(&held.out);
-    end.put(held);
-    send_code(&answer)
+    call(end, alloc, UserCall::Send(payload), now, frame)
 }
 
 /// `Session::close`. Returns DONE, NOT_MADE or NOT_OPEN.
 #[unsafe(no_mangle)]
 pub extern "C" fn dccp_close(end: &mut End, alloc: Global, now: u64, frame: &mut Frame) -> u32
-    ensures end { end_in end.new.kept.value ≡ kept_after (c_closes now) (end_in end.old.kept.value) }
+    ensures step { CallsEnd now (end_in end.old.kept.value) (end_in end.new.kept.value) Closes (handed_in frame.new) result }
     ensures drops { drops_in end.new.kept.value ≡ drops_in end.old.kept.value }
-    ensures frame { handed_in frame.new ≡ frame_after (c_closes now) (end_in end.old.kept.value) }
-    ensures code { result ≡ code_after close_code (c_closes now) (end_in end.old.kept.value) }
 {
-    let Some(mut held) = end.take(alloc) else {
-        frame.clear();
-        return NOT_MADE;
-    };
-    let answer = close(&mut held, now);
-    frame.fill(&held.out);
-    end.put(held);
-    close_code(&answer)
+    call(end, alloc, UserCall::Close, now, frame)
 }
 
 /// `Session::abort`. Returns DONE, NOT_MADE or NOT_LIVE.
 #[unsafe(no_mangle)]
 pub extern "C" fn dccp_abort(end: &mut End, alloc: Global, now: u64, frame: &mut Frame) -> u32
-    ensures end { end_in end.new.kept.value ≡ kept_after (c_aborts now) (end_in end.old.kept.value) }
+    ensures step { CallsEnd now (end_in end.old.kept.value) (end_in end.new.kept.value) Aborts (handed_in frame.new) result }
     ensures drops { drops_in end.new.kept.value ≡ drops_in end.old.kept.value }
-    ensures frame { handed_in frame.new ≡ frame_after (c_aborts now) (end_in end.old.kept.value) }
-    ensures code { result ≡ code_after abort_code (c_aborts now) (end_in end.old.kept.value) }
 {
-    let Some(mut held) = end.take(alloc) else {
-        frame.clear();
-        return NOT_MADE;
-    };
-    let answer = abort(&mut held, now);
-    frame.fill(&held.out);
-    end.put(held);
-    abort_code(&answer)
+    call(end, alloc, UserCall::Abort, now, frame)
 }
 
 /// `Session::prefer`, for the feature with this number at the peer or here. NO_FEATURE if no feature has this number.
@@ -218,22 +195,19 @@ pub extern "C" fn dccp_prefer(
     now: u64,
     frame: &mut Frame,
 ) -> u32
-    ensures end { end_in end.new.kept.value ≡ end_if_known (λ f. c_prefers f (place_by at_peer) values.now now) (feature_numbered feature) (end_in end.old.kept.value) }
+    ensures step { CallsEndIfKnown now (end_in end.old.kept.value) (end_in end.new.kept.value) 11 (option_map (λ it. Prefers it (place_by at_peer) values.now) (feature_numbered feature)) (handed_in frame.new) result }
     ensures drops { drops_in end.new.kept.value ≡ drops_in end.old.kept.value }
-    ensures frame { handed_in frame.new ≡ frame_if_known (λ f. c_prefers f (place_by at_peer) values.now now) (feature_numbered feature) (end_in end.old.kept.value) }
-    ensures code { result ≡ code_if_known 11 wish_code (λ f. c_prefers f (place_by at_peer) values.now now) (feature_numbered feature) (end_in end.old.kept.value) }
 {
     frame.clear();
     let Some(feature) = feature_of(feature) else {
         return NO_FEATURE;
     };
-    let Some(mut held) = end.take(alloc) else {
-        return NOT_MADE;
+    let wish = UserCall::Prefer {
+        feature,
+        place: place_of(at_peer),
+        values,
     };
-    let answer = prefer(&mut held, feature, place_of(at_peer), values, now);
-    frame.fill(&held.out);
-    end.put(held);
-    wish_code(&answer)
+    call(end, alloc, wish, now, frame)
 }
 
 /// The timer with this number, which the caller keeps, has run out. NO_TIMER if no timer has this number, and
@@ -246,22 +220,14 @@ pub extern "C" fn dccp_timer(
     now: u64,
     frame: &mut Frame,
 ) -> u32
-    ensures end { end_in end.new.kept.value ≡ end_if_known (λ t. c_fires t now) (timer_coded timer) (end_in end.old.kept.value) }
+    ensures step { CallsEndIfKnown now (end_in end.old.kept.value) (end_in end.new.kept.value) 16 (option_map Fires (timer_coded timer)) (handed_in frame.new) result }
     ensures drops { drops_in end.new.kept.value ≡ drops_in end.old.kept.value }
-    ensures frame { handed_in frame.new ≡ frame_if_known (λ t. c_fires t now) (timer_coded timer) (end_in end.old.kept.value) }
-    ensures code { result ≡ code_if_known 16 timer_code (λ t. c_fires t now) (timer_coded timer) (end_in end.old.kept.value) }
 {
     frame.clear();
     let Some(timer) = timer_of(timer) else {
         return NO_TIMER;
     };
-    let Some(mut held) = end.take(alloc) else {
-        return NOT_MADE;
-    };
-    let applies = fire(&mut held, timer, now);
-    frame.fill(&held.out);
-    end.put(held);
-    timer_code(applies)
+    call(end, alloc, UserCall::Timer(timer), now, frame)
 }
 
 /// Fires the first timer that has run out, or else does what the rules of the path ask for. NOTHING_DUE if nothing is
@@ -325,7 +291,7 @@ pub extern "C" fn dccp_receive(
     let Some(mut held) = end.take(alloc) else {
         return NOT_MADE;
     };
-    tell_reading(&receive(&mut held, datagram, now), told);
+    *told = told_reading(&receive(&mut held, datagram, now));
     frame.fill(&held.out);
     end.put(held);
     DONE

@@ -2,7 +2,7 @@
 ghost use Rattle.std.specs.Prelude.{◌≡◌, ◌≤◌, length};
 ghost use Rattle.init_cookies.specs.Openings.{request_bytes};
 ghost use Rattle.dccp_c.specs.Accepting.{as_server, first_heard};
-ghost use Rattle.dccp_c.specs.CookieCalls.{Greets, GreetsAsked, GreetsBy, is_heard_so, keys_of, opening_brought, pseudo_from, recall_code, recalled_code, request_handed, route_by};
+ghost use Rattle.dccp_c.specs.CookieCalls.{Greets, GreetsAsked, GreetsBy, is_heard_so, keys_of, opening_brought, recall_code, recalled_code, request_handed, route_by};
 ghost use Rattle.dccp_c.specs.Doing.{c_end};
 ghost use Rattle.dccp_c.specs.Framing.{handed_in};
 ghost use Rattle.dccp_c.specs.Making.{care_by, configured_by};
@@ -11,11 +11,11 @@ ghost use Rattle.dccp_c.specs.Stepping.{c_receives};
 use crate::codes::{DONE, NO_CONNECTION, NO_MEMORY, OTHER_SIZE, TOO_LONG};
 use crate::frame::Frame;
 use crate::held::OwnedEnd;
-use crate::making::{Care, as_server, care_by, configured_by, first_four};
+use crate::making::{Care, as_server, care_by, configured_by, pseudo_of};
 use crate::sizes::SETTINGS_BYTES;
 use crate::steps::{new_end, receive};
 use crate::{Key, Settings, Wish};
-use dccp_endpoint::{Config, MOST_FRAME_BYTES, Outcome, Pseudo};
+use dccp_endpoint::{Config, MOST_FRAME_BYTES, Outcome};
 use dccp_uses::is_taken;
 use init_cookies::{CookieKeys, FirstRequest, Route, put_request};
 use server_peers::{DatagramRequest, append_cookie, asking_of, opening_of};
@@ -41,27 +41,11 @@ fn keys_of(pair: &KeyPair) -> CookieKeys
     keys
 }
 
-fn pseudo_from(settings: &Settings) -> Pseudo
-    ensures { result ≡ pseudo_from settings.now }
-{
-    if settings.is_v6 {
-        Pseudo::V6 {
-            from: settings.peer_address,
-            to: settings.own_address,
-        }
-    } else {
-        Pseudo::V4 {
-            from: first_four(&settings.peer_address),
-            to: first_four(&settings.own_address),
-        }
-    }
-}
-
 fn route_by(settings: &Settings) -> Route
     ensures { result ≡ route_by settings.now }
 {
     Route {
-        pseudo: pseudo_from(settings),
+        pseudo: pseudo_of(settings).reversed(),
         from: settings.peer_port,
         to: settings.own_port,
     }

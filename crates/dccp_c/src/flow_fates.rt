@@ -9,8 +9,9 @@ ghost use Rattle.dccp_c.specs.FlowFates.{flow_end, flow_path, left_beside_flow, 
 ghost use Rattle.dccp_c.specs.Listening.{flow_code, flow_drops_in, inboxes_in, peer_named, served_in};
 ghost use Rattle.dccp_c.specs.Seeing.{if_sized, sized_code};
 
-use crate::codes::{DONE, NO_FLOW, NOT_MADE, OTHER_SIZE};
+use crate::codes::{NOT_MADE, OTHER_SIZE};
 use crate::fates::{FATE_UNKNOWN, fate_in, longest_in};
+use crate::listener_calls::hand_found;
 use crate::peer::peer_named;
 use crate::readers::trip_seen;
 use crate::sizes::ROUND_TRIP_VIEW_BYTES;
@@ -133,11 +134,5 @@ pub extern "C" fn dccp_listener_look_path(
     };
     let found = path_of(serving.server.server(), peer_named(peer));
     listener.put(serving);
-    match found {
-        Some(found) => {
-            *trip = found;
-            DONE
-        }
-        None => NO_FLOW,
-    }
+    hand_found(found, trip)
 }

@@ -1,17 +1,18 @@
 //! The functions of a listener that C calls for the features of a flow.
 ghost use Rattle.std.specs.Prelude.{◌≡◌, unwrap_or};
 ghost use Rattle.std.specs.Option.{option_map};
+ghost use Rattle.dccp_listener.specs.Chain.{Prefers};
 ghost use Rattle.dccp_listener.specs.Peers.{end_of_peer};
 ghost use Rattle.feature_lists.specs.Features.{feature_numbered};
 ghost use Rattle.dccp_c.specs.Codes.{place_by};
-ghost use Rattle.dccp_c.specs.FlowFeatures.{PrefersAt, flow_feature, flow_feature_code};
+ghost use Rattle.dccp_c.specs.FlowFeatures.{flow_feature, flow_feature_code};
 ghost use Rattle.dccp_c.specs.Framing.{handed_in};
-ghost use Rattle.dccp_c.specs.Listening.{holding_in, peer_named, served_in};
+ghost use Rattle.dccp_c.specs.Listening.{ServesIfKnown, holding_in, peer_named, served_in};
 ghost use Rattle.dccp_c.specs.Seeing.{seen_feature};
 
-use crate::codes::{DONE, NO_FEATURE, NO_FLOW, NOT_MADE, feature_of, place_of};
+use crate::codes::{NO_FEATURE, NOT_MADE, feature_of, place_of};
 use crate::frame::Frame;
-use crate::listener_calls::call;
+use crate::listener_calls::{call, hand_found};
 use crate::peer::peer_named;
 use crate::readers::seen_feature;
 use crate::{FeatureState, ListenerHandle, PeerAddress};
@@ -33,7 +34,7 @@ pub extern "C" fn dccp_listener_prefer(
     now: u64,
     frame: &mut Frame,
 ) -> u32
-    ensures { PrefersAt now (holding_in listener.old.kept.value) (holding_in listener.new.kept.value) (peer_named peer.now) (feature_numbered feature) (place_by at_peer) values.now (handed_in frame.new) result }
+    ensures { ServesIfKnown now (holding_in listener.old.kept.value) (holding_in listener.new.kept.value) (peer_named peer.now) 11 (option_map (λ it. Prefers it (place_by at_peer) values.now) (feature_numbered feature)) (handed_in frame.new) result }
 {
     frame.clear();
     let Some(feature) = feature_of(feature) else {
@@ -84,11 +85,5 @@ pub extern "C" fn dccp_listener_feature(
         place_of(at_peer),
     );
     listener.put(serving);
-    match found {
-        Some(found) => {
-            *state = found;
-            DONE
-        }
-        None => NO_FLOW,
-    }
+    hand_found(found, state)
 }

@@ -1,13 +1,13 @@
 //! The functions of a listener that C calls: each does one thing with the listener that its handle holds.
 ghost use Rattle.std.specs.Prelude.{◌≡◌, ◌==◌, ◌≢◌, ◌≤◌, IfOk, None, Ok, Some, OnErr, OnOk, false, if◌then◌else◌, is_some, length, true, unwrap_or};
 ghost use Rattle.dccp_listener.specs.Calls.{seen_if};
-ghost use Rattle.dccp_listener.specs.Chain.{Calls, Sends, Closes, Aborts, asked};
+ghost use Rattle.dccp_listener.specs.Chain.{Aborts, Calls, Closes, Fires, Sends, asked};
 ghost use Rattle.dccp_listener.specs.Listens.{listens};
 ghost use Rattle.dccp_listener.specs.Runs.{Stepped, told_of};
 ghost use Rattle.std.specs.Option.{option_map};
 ghost use Rattle.dccp_c.specs.Framing.{handed_in, handed_of};
-ghost use Rattle.dccp_c.specs.Making.{care_by};
-ghost use Rattle.dccp_c.specs.Founding.{FoundsCode, founded_of, listening_by};
+ghost use Rattle.dccp_c.specs.Making.{MakesCode, care_by};
+ghost use Rattle.dccp_c.specs.Founding.{founded_of, listening_by};
 ghost use Rattle.dccp_listener.specs.Peers.{end_of_peer};
 ghost use Rattle.dccp_packets.specs.ResetCodes.{number_of_code};
 ghost use Rattle.dccp_packets.specs.declared.reset_code.ResetCode.TheVariants as codes;
@@ -24,7 +24,7 @@ ghost use Rattle.server_peers.specs.Strangers.{told_of_arrival};
 ghost use Rattle.dccp_server.specs.Serving.{Does};
 ghost use Rattle.dccp_c.specs.Seeing.{if_sized, sized_code};
 ghost use Rattle.dccp_c.specs.Codes.{timer_coded};
-ghost use Rattle.dccp_c.specs.Listening.{FiresAt, Forgets, HandsHeard, HasTakenIn, HearsDatagram, HearsIfOpen, MayDeliver, SendsUnheld, Serves, Ticks, address_of, arrival_code, arrival_told, cookies_of, counted_of, datagram_refusal, duty_address, duty_code, duty_left, evicted_in, first_peer_in, flow_code, flow_in, flows_in, holding_in, holding_of, holds_called, holds_done, holds_forgotten, holds_on, holds_ticked, inboxes_in, known_of, life_if, life_in, listen_code, listen_told, listener_waits, made_code, next_peer_in, peer_named, refusal_code, rekeyed_in, restraint_in, rule_code, ruled_by, rules_of, seen_code, served_in, watched_in, way_in, way_number};
+ghost use Rattle.dccp_c.specs.Listening.{Forgets, HandsHeard, HasTakenIn, HearsDatagram, HearsIfOpen, MayDeliver, SendsUnheld, Serves, ServesIfKnown, Ticks, address_of, arrival_code, arrival_told, cookies_of, counted_of, datagram_refusal, duty_address, duty_code, duty_left, evicted_in, first_peer_in, flow_code, flow_in, flows_in, holding_in, holding_of, holds_called, holds_done, holds_forgotten, holds_on, holds_ticked, inboxes_in, known_of, life_if, life_in, listen_code, listen_told, listener_waits, made_code, next_peer_in, peer_named, refusal_code, rekeyed_in, restraint_in, rule_code, ruled_by, rules_of, seen_code, served_in, watched_in, way_in, way_number};
 
 use crate::codes::{
     BAD_LIST, BUSY, DONE, GAVE_UP, NO_FLOW, NO_MEMORY, NO_NUMBER, NO_TIMER, NOT_FRESH, NOT_LIVE,
@@ -39,7 +39,7 @@ use crate::peer::{address_of, peer_named};
 use crate::readers::seen;
 use crate::serving::OwnedServer;
 use crate::sizes::{FLOW_LIFE_BYTES, FLOW_RULES_BYTES, VIEW_BYTES};
-use crate::told::{Told, tell, tell_heard as tell_left_out, tell_kept};
+use crate::told::{Told, told_arrival, told_heard, told_outcome};
 use crate::{FlowLife, FlowRules, Key, ListenerHandle, PeerAddress, Settings, View, Wish};
 use dccp_endpoint::{MOST_FRAME_BYTES, NoMemory, Outbox, Refusal, Seen, Seq48, UserCall};
 use dccp_listener::{Heard, NoFlow, Peer};
@@ -91,7 +91,7 @@ fn tell_heard(heard: &Heard, told: &mut Told) -> u32
 {
     match heard {
         Heard::Flow(outcome) => {
-            tell(outcome, told);
+            *told = told_outcome(outcome);
             DONE
         }
         Heard::Busy => BUSY,
@@ -106,7 +106,7 @@ fn tell_arrival(heard: Option<Heard>, told: &mut Told) -> u32
     match heard {
         Some(heard) => tell_heard(&heard, told),
         None => {
-            tell_left_out(None, told);
+            *told = told_heard(None);
             DONE
         }
     }
@@ -122,34 +122,23 @@ fn view_of(server: &Server, peer: Peer) -> Option<View>
     }
 }
 
-// The first peer that has a flow.
-fn first_address(server: &Server) -> Option<PeerAddress>
-    ensures { result ≡ first_peer_in (Some server.now) }
+fn address_if(peer: Option<Peer>) -> Option<PeerAddress>
+    ensures { result ≡ option_map address_of peer }
 {
-    match server.first_peer() {
+    match peer {
         Some(peer) => Some(address_of(peer)),
         None => None,
     }
 }
 
-// The first one after this.
-fn next_address(server: &Server, peer: Peer) -> Option<PeerAddress>
-    ensures { result ≡ next_peer_in (Some server.now) peer }
-{
-    match server.peer_after(peer) {
-        Some(next) => Some(address_of(next)),
-        None => None,
-    }
-}
-
-// Writes the peer that was found into this place.
-fn name_peer(found: Option<PeerAddress>, peer: &mut PeerAddress) -> u32
-    ensures peer { peer.new ≡ unwrap_or found peer.old }
+/// Writes what was found of a flow, or its peer, into this place. Returns DONE, or NO_FLOW if nothing was found.
+pub(crate) fn hand_found<T: Copy>(found: Option<T>, place: &mut T) -> u32
+    ensures place { place.new ≡ unwrap_or found place.old }
     ensures code { result ≡ (if is_some found then 0 else 15) }
 {
     match found {
         Some(found) => {
-            *peer = found;
+            *place = found;
             DONE
         }
         None => NO_FLOW,
@@ -170,7 +159,7 @@ pub extern "C" fn dccp_listener_make(
     most: u16,
 ) -> u32
     ensures listener { holding_in listener.new.kept.value ≡ founded_of result (care_by settings.now) (listening_by settings.now services.now wishes.now most) }
-    ensures code { FoundsCode (listening_by settings.now services.now wishes.now most) result }
+    ensures code { MakesCode (listening_by settings.now services.now wishes.now most) result }
 {
     listener.clear(alloc);
     let config = match listening_by(settings, services, wishes, most) {
@@ -307,7 +296,7 @@ fn hand(
         Ok(heard) => {
             frame.fill(out);
             let code = tell_arrival(*heard, told);
-            tell_kept(kept, told);
+            *told = told_arrival(kept, *told);
             code
         }
         Err(NoMemory) => {
@@ -422,13 +411,7 @@ pub extern "C" fn dccp_listener_evicted(
     };
     let found = serving.evicted;
     listener.put(serving);
-    match found {
-        Some(found) => {
-            *peer = address_of(found);
-            DONE
-        }
-        None => NO_FLOW,
-    }
+    hand_found(address_if(found), peer)
 }
 
 /// How the last datagram was met. 0: it was served as usual. 1: it was a Request, and was answered with an Init Cookie,
@@ -610,7 +593,7 @@ pub extern "C" fn dccp_listener_timer(
     now: u64,
     frame: &mut Frame,
 ) -> u32
-    ensures { FiresAt now (holding_in listener.old.kept.value) (holding_in listener.new.kept.value) (peer_named peer.now) (timer_coded timer) (handed_in frame.new) result }
+    ensures { ServesIfKnown now (holding_in listener.old.kept.value) (holding_in listener.new.kept.value) (peer_named peer.now) 16 (option_map Fires (timer_coded timer)) (handed_in frame.new) result }
 {
     frame.clear();
     let Some(timer) = timer_of(timer) else {
@@ -732,13 +715,7 @@ pub extern "C" fn dccp_listener_look(
     };
     let found = view_of(serving.server.server(), peer_named(peer));
     listener.put(serving);
-    match found {
-        Some(found) => {
-            *view = found;
-            DONE
-        }
-        None => NO_FLOW,
-    }
+    hand_found(found, view)
 }
 
 /// The first peer that has a flow, in the order of their addresses and ports. Returns DONE, NOT_MADE, or NO_FLOW if
@@ -756,9 +733,9 @@ pub extern "C" fn dccp_listener_first_peer(
     let Some(serving) = listener.take(alloc) else {
         return NOT_MADE;
     };
-    let found = first_address(serving.server.server());
+    let found = serving.server.server().first_peer();
     listener.put(serving);
-    name_peer(found, peer)
+    hand_found(address_if(found), peer)
 }
 
 /// Replaces a peer, with or without a flow, by the first one after it that has a flow. Returns DONE, NOT_MADE, or
@@ -776,9 +753,9 @@ pub extern "C" fn dccp_listener_next_peer(
     let Some(serving) = listener.take(alloc) else {
         return NOT_MADE;
     };
-    let found = next_address(serving.server.server(), peer_named(peer));
+    let found = serving.server.server().peer_after(peer_named(peer));
     listener.put(serving);
-    name_peer(found, peer)
+    hand_found(address_if(found), peer)
 }
 
 /// The code of a call of a flow, by whether there was one.
@@ -898,11 +875,5 @@ pub extern "C" fn dccp_listener_life(
     };
     let found = life_of(serving.server.server(), peer_named(peer));
     listener.put(serving);
-    match found {
-        Some(found) => {
-            *life = found;
-            DONE
-        }
-        None => NO_FLOW,
-    }
+    hand_found(found, life)
 }

@@ -1,24 +1,21 @@
 //! What each call does to an end of C: one step of it, after which its timers go on.
 ghost use Rattle.std.specs.Prelude.{◌≡◌, ◌≤◌, [], IfOk, length};
 ghost use Rattle.ccid_two.specs.Kinds.{at_first, kinds_control};
+ghost use Rattle.dccp_listener.specs.Chain.{asked};
 ghost use Rattle.dccp_uses.specs.Session.{is_listening};
 ghost use Rattle.dccp_uses.specs.Timed.{timed_begins};
 ghost use Rattle.dccp_uses.specs.Holding.{holding_frame};
 ghost use Rattle.dccp_c.specs.Doing.{c_end};
 ghost use Rattle.dccp_c.specs.Making.{c_begins};
-ghost use Rattle.dccp_c.specs.Stepping.{c_aborts, c_closes, c_fires, c_opens, c_prefers, c_receives, c_sends, c_told, done, record_heard};
+ghost use Rattle.dccp_c.specs.Stepping.{c_acts, c_receives, c_told, done, record_heard, timed_acts};
 
+use crate::codes::{abort_code, close_code, open_code, send_code, timer_code, wish_code};
 use crate::held::OwnedEnd;
 use crate::making::Care;
 use ccid_two::Kinds;
 use data_dropped::Intake;
-use dccp_endpoint::{
-    AbortFault, CloseFault, Config, Feature, NoMemory, OpenFault, Outbox, Phase, Place,
-    PreferFault, Timer,
-};
-use dccp_uses::{
-    ClientCookie, DropRecord, Due, Pace, Reading, SendRefusal, TimedEnd, settle_heard,
-};
+use dccp_endpoint::{Config, NoMemory, Outbox, Phase, UserCall};
+use dccp_uses::{ClientCookie, DropRecord, Due, Pace, Reading, TimedEnd, settle_heard};
 use std::alloc::Global;
 
 /// A new end, for which no timer runs. NoMemory if there is no memory.
@@ -75,54 +72,35 @@ fn speak(held: &mut OwnedEnd)
     dccp_uses::give_back(&held.cookie, &held.timed, &mut held.out);
 }
 
-/// `Session::open` at `now`, in milliseconds as in each call, whose frame stays here. A refused call changes nothing
-/// and leaves no frame. NotFresh if the end is a server's, or was opened before.
-pub(crate) fn open(held: &mut OwnedEnd, now: u64) -> Result<(), OpenFault>
-    ensures step { done held.new.timed held.new.intake held.new.cookie held.new.out result ≡ c_opens now (c_end held.old) }
-    ensures drops { held.new.drops ≡ held.old.drops }
+// A call of an end by its owner. Returns its code.
+fn act_alone(timed: &mut TimedEnd<Kinds>, call: UserCall<'_>, now: u64, out: &mut Outbox) -> u32
+    ensures { record { timed = timed.new; frame = out.new; answer = result } ≡ timed_acts (asked call.entry) now timed.old }
 {
-    let answer = held.timed.open(now, &mut held.out);
-    speak(held);
-    answer
+    match call {
+        UserCall::Open => open_code(&timed.open(now, out)),
+        UserCall::Send(payload) | UserCall::SendEarly(payload) => {
+            send_code(&timed.send(payload, now, out))
+        }
+        UserCall::Prefer {
+            feature,
+            place,
+            values,
+        } => wish_code(&timed.prefer(feature, place, values, now, out)),
+        UserCall::Close => close_code(&timed.close(now, out)),
+        UserCall::Abort => abort_code(&timed.abort(now, out)),
+        UserCall::Timer(timer) => timer_code(timed.timer(timer, now, out)),
+    }
 }
 
-/// `Session::send`. Held if the data have to wait for the application that reads them; otherwise refused as
-/// `Endpoint::send_soon` is.
-pub(crate) fn send(held: &mut OwnedEnd, payload: &[u8], now: u64) -> Result<(), SendRefusal>
-    ensures step { done held.new.timed held.new.intake held.new.cookie held.new.out result ≡ c_sends payload.now now (c_end held.old) }
+/// A call of an end by its owner at `now`, in milliseconds as in each call, whose frame stays here. Returns its code; a
+/// refused call changes nothing and leaves no frame.
+pub(crate) fn act(held: &mut OwnedEnd, call: UserCall<'_>, now: u64) -> u32
+    ensures step { done held.new.timed held.new.intake held.new.cookie held.new.out result ≡ c_acts (asked call.entry) now (c_end held.old) }
     ensures drops { held.new.drops ≡ held.old.drops }
 {
-    let answer = held.timed.send(payload, now, &mut held.out);
+    let code = act_alone(&mut held.timed, call, now, &mut held.out);
     speak(held);
-    answer
-}
-
-/// `Session::prefer`. NotOpen, BadList and NotOurs come as from `Endpoint::prefer`.
-pub(crate) fn prefer(
-    held: &mut OwnedEnd,
-    feature: Feature,
-    place: Place,
-    values: &[u64],
-    now: u64,
-) -> Result<(), PreferFault>
-    ensures step { done held.new.timed held.new.intake held.new.cookie held.new.out result ≡ c_prefers feature place values.now now (c_end held.old) }
-    ensures drops { held.new.drops ≡ held.old.drops }
-{
-    let answer = held
-        .timed
-        .prefer(feature, place, values, now, &mut held.out);
-    speak(held);
-    answer
-}
-
-/// This timer has run out. False if it has nothing to do.
-pub(crate) fn fire(held: &mut OwnedEnd, timer: Timer, now: u64) -> bool
-    ensures step { done held.new.timed held.new.intake held.new.cookie held.new.out result ≡ c_fires timer now (c_end held.old) }
-    ensures drops { held.new.drops ≡ held.old.drops }
-{
-    let answer = held.timed.timer(timer, now, &mut held.out);
-    speak(held);
-    answer
+    code
 }
 
 /// Does what is due. False if the end has nothing to do.
@@ -131,26 +109,6 @@ pub(crate) fn tell_due(held: &mut OwnedEnd, due: Due, now: u64) -> bool
     ensures drops { held.new.drops ≡ held.old.drops }
 {
     let answer = held.timed.tell(due, now, &mut held.out);
-    speak(held);
-    answer
-}
-
-/// `Session::close`. NotOpen in a phase where nothing is to be closed.
-pub(crate) fn close(held: &mut OwnedEnd, now: u64) -> Result<(), CloseFault>
-    ensures step { done held.new.timed held.new.intake held.new.cookie held.new.out result ≡ c_closes now (c_end held.old) }
-    ensures drops { held.new.drops ≡ held.old.drops }
-{
-    let answer = held.timed.close(now, &mut held.out);
-    speak(held);
-    answer
-}
-
-/// `Session::abort`. NotLive if there is no connection.
-pub(crate) fn abort(held: &mut OwnedEnd, now: u64) -> Result<(), AbortFault>
-    ensures step { done held.new.timed held.new.intake held.new.cookie held.new.out result ≡ c_aborts now (c_end held.old) }
-    ensures drops { held.new.drops ≡ held.old.drops }
-{
-    let answer = held.timed.abort(now, &mut held.out);
     speak(held);
     answer
 }

@@ -61,7 +61,8 @@ fn quiet() -> Told
     }
 }
 
-fn told_of(outcome: &Outcome) -> Told
+/// What C is told of an outcome.
+pub(crate) fn told_outcome(outcome: &Outcome) -> Told
     ensures { result ≡ told_outcome outcome.now }
 {
     match *outcome {
@@ -98,19 +99,12 @@ fn told_of(outcome: &Outcome) -> Told
     }
 }
 
-/// Tells C of an outcome.
-pub fn tell(outcome: &Outcome, told: &mut Told)
-    ensures { told.new ≡ told_outcome outcome.now }
-{
-    *told = told_of(outcome);
-}
-
-// What C is told about a datagram that was heard, or left out.
-fn told_heard(outcome: Option<Outcome>) -> Told
+/// What C is told about a datagram that was heard, or left out.
+pub(crate) fn told_heard(outcome: Option<Outcome>) -> Told
     ensures { result ≡ told_heard outcome }
 {
     match outcome {
-        Some(outcome) => told_of(&outcome),
+        Some(outcome) => told_outcome(&outcome),
         None => Told {
             kind: 2,
             cause: 12,
@@ -119,8 +113,8 @@ fn told_heard(outcome: Option<Outcome>) -> Told
     }
 }
 
-// What C is told about data that came into an inbox, or about any other outcome.
-fn told_arrival(arrival: Option<Arrival>, told: Told) -> Told
+/// What C is told about data that came into an inbox, or what it was told about their datagram.
+pub(crate) fn told_arrival(arrival: Option<Arrival>, told: Told) -> Told
     ensures { result ≡ told_arrival arrival told }
 {
     match arrival {
@@ -134,23 +128,9 @@ fn told_arrival(arrival: Option<Arrival>, told: Told) -> Told
     }
 }
 
-/// Tells C of a datagram that was heard, or left out.
-pub fn tell_heard(outcome: Option<Outcome>, told: &mut Told)
-    ensures { told.new ≡ told_heard outcome }
+/// What C is told of a datagram and of its data.
+pub(crate) fn told_reading(reading: &Reading) -> Told
+    ensures { result ≡ told_reading reading.now }
 {
-    *told = told_heard(outcome);
-}
-
-/// Tells C about data that came into an inbox, in place of what it was told about their datagram.
-pub fn tell_kept(arrival: Option<Arrival>, told: &mut Told)
-    ensures { told.new ≡ told_arrival arrival told.old }
-{
-    *told = told_arrival(arrival, *told);
-}
-
-/// Tells C of a datagram and of its data.
-pub fn tell_reading(reading: &Reading, told: &mut Told)
-    ensures { told.new ≡ told_reading reading.now }
-{
-    *told = told_arrival(reading.arrival, told_heard(reading.heard));
+    told_arrival(reading.arrival, told_heard(reading.heard))
 }
