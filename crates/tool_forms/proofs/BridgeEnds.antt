@@ -1,9 +1,10 @@
 -- The results of the commands of `seed`, `seeds` and `frames` after the last word.
 use Rattle.std.proofs.Common.{◌≡◌, ◌∙◌, ◌&&◌, refl, sym, ap, ap₂, ℕ, Bool, true, false, List, [], Option, Some, None, option_and_then, codes}
 use Rattle.std.specs.Prelude.{if◌then◌else◌}
-use Rattle.clap.specs.Walk.{Row, Text, finished, has_row}
+use Rattle.std.proofs.lemmas.Bool.{false≢true}
+use Rattle.clap.specs.Walk.{Row, Text}
 use Rattle.clap.specs.Takes.{is_given}
-use Rattle.clap.specs.Faults.{defaults_fault}
+use Rattle.clap.specs.Faults.{check_fault}
 use Rattle.world_events.specs.declared.event.Side.{Side as EndSide}
 use Rattle.tool_forms.specs.declared.bridge_words.FlowSide.{FlowSide}
 use Rattle.tool_forms.specs.declared.bridge_words.SeedRange.{SeedRange}
@@ -13,15 +14,15 @@ use Rattle.tool_forms.specs.declared.settings.Setting.{Setting}
 use Rattle.tool_forms.specs.declared.settings.Setting.TheVariants.{First, Seeds, Events, Workers, Side, Plain, Buffer, Most, Seed, Flow}
 use Rattle.tool_forms.specs.Given as value
 use Rattle.tool_forms.specs.Given.{Assignment}
-use Rattle.tool_forms.specs.Settings.{number_among, number_for, once, preceded, side_in}
+use Rattle.tool_forms.specs.Settings.{number_among, number_for, once, preceded, settings_of, side_in}
 use Rattle.tool_forms.specs.BridgeWords.{flow_side_from, seed_range_from, seed_run_from}
 use Rattle.tool_forms.specs.Words.{side_given}
 use Rattle.tool_forms.specs.Commands.{figure_in, flow_side_in, seed_range_in, seed_run_in}
-use Rattle.tool_forms.proofs.Turns.{closes, holding, last-turn, passed, rests, verdict}
-use Rattle.tool_forms.proofs.Pairs.{Distinct, Pairs, first-of, has, has-row, is-given, rows, text_at}
+use Rattle.tool_forms.proofs.Turns.{last-turn, passed, rests, verdict}
+use Rattle.tool_forms.proofs.Pairs.{Distinct, Pairs, first-of, has, is-given, rows, text_at}
 use Rattle.tool_forms.proofs.Onto.{assigned, found_at, gave, once-gave, onto, twice-none, value_of}
 use Rattle.tool_forms.proofs.Reading.{Owned, owns, shape}
-use Rattle.tool_forms.proofs.Ends.{lacks-text, number-gave, number_at, number_once, some-bad, unvalued}
+use Rattle.tool_forms.proofs.Ends.{lacks-text, number-gave, number_at, number_once, some-bad, unvalued, valued-closes}
 
 -- ---- seed
 
@@ -37,14 +38,14 @@ none-of-seed : (setting : Setting) (figure : Setting → Option ℕ) → owns ta
     → seed_run_from (figure Seed) (figure Events) ≡ None
 none-of-seed Seed figure is none = rw none refl
 none-of-seed Events figure is none = rw none (no-events (figure Seed))
-none-of-seed First figure is none = cc is
-none-of-seed Seeds figure is none = cc is
-none-of-seed Workers figure is none = cc is
-none-of-seed Side figure is none = cc is
-none-of-seed Plain figure is none = cc is
-none-of-seed Buffer figure is none = cc is
-none-of-seed Most figure is none = cc is
-none-of-seed Flow figure is none = cc is
+none-of-seed First figure is none = absurd (false≢true is)
+none-of-seed Seeds figure is none = absurd (false≢true is)
+none-of-seed Workers figure is none = absurd (false≢true is)
+none-of-seed Side figure is none = absurd (false≢true is)
+none-of-seed Plain figure is none = absurd (false≢true is)
+none-of-seed Buffer figure is none = absurd (false≢true is)
+none-of-seed Most figure is none = absurd (false≢true is)
+none-of-seed Flow figure is none = absurd (false≢true is)
 
 pub seed-once : (setting : Setting) (text : Text) (all : Option (List Assignment)) (pairs : Pairs) → owns table.Seed setting ≡ true → has setting pairs ≡ true
     → seed_means (onto pairs (preceded (assigned setting text) all)) ≡ None
@@ -52,14 +53,11 @@ seed-once setting text all pairs is twice =
     none-of-seed setting (λ s. number_once s (onto pairs (preceded (assigned setting text) all))) is (ap number_among (twice-none setting text all pairs twice))
 
 module _ {X : Type 0} (judge : List Row → Option X) where
-  seed-closes : (rs : List Row) (a b : Bool) → has_row (codes "seed") rs ≡ a → has_row (codes "events") rs ≡ b → is_given (codes "seed") rs ≡ a
-      → is_given (codes "events") rs ≡ b
-      → passed (closes (shape table.Seed) (holding rs None)) (judge (finished (shape table.Seed).rules (holding rs None))) ≡ (if a && b then judge rs else None)
-  unfolding defaults_fault
-  seed-closes rs true true f g h i = rw (f, g, h, i) refl
-  seed-closes rs true false f g h i = rw (f, g, h, i) refl
-  seed-closes rs false true f g h i = rw (f, g, h) refl
-  seed-closes rs false false f g h i = rw (f, g, h) refl
+  seed-closes : (rs : List Row) (a b : Bool) → is_given (codes "seed") rs ≡ a → is_given (codes "events") rs ≡ b
+      → passed (check_fault (shape table.Seed) rs false) (judge rs) ≡ (if a && b then judge rs else None)
+  seed-closes rs true true f g = rw (f, g) refl
+  seed-closes rs true false f g = rw (f, g) refl
+  seed-closes rs false b f g = rw f refl
 
 seed-at : (pairs : Pairs) → Option SeedRun
 seed-at pairs = seed_run_from (number_at pairs Seed) (number_at pairs Events)
@@ -69,14 +67,14 @@ seed-owned : (setting : Setting) → owns table.Seed setting ≡ true → (pairs
     → number_at pairs setting ≡ None
 seed-owned Seed is pairs text at bad = ap (option_and_then (number_for Seed)) at ∙ unvalued Seed text refl bad
 seed-owned Events is pairs text at bad = ap (option_and_then (number_for Events)) at ∙ unvalued Events text refl bad
-seed-owned First is pairs text at bad = cc is
-seed-owned Seeds is pairs text at bad = cc is
-seed-owned Workers is pairs text at bad = cc is
-seed-owned Side is pairs text at bad = cc is
-seed-owned Plain is pairs text at bad = cc is
-seed-owned Buffer is pairs text at bad = cc is
-seed-owned Most is pairs text at bad = cc is
-seed-owned Flow is pairs text at bad = cc is
+seed-owned First is pairs text at bad = absurd (false≢true is)
+seed-owned Seeds is pairs text at bad = absurd (false≢true is)
+seed-owned Workers is pairs text at bad = absurd (false≢true is)
+seed-owned Side is pairs text at bad = absurd (false≢true is)
+seed-owned Plain is pairs text at bad = absurd (false≢true is)
+seed-owned Buffer is pairs text at bad = absurd (false≢true is)
+seed-owned Most is pairs text at bad = absurd (false≢true is)
+seed-owned Flow is pairs text at bad = absurd (false≢true is)
 
 seed-gave : (pairs : Pairs) → Distinct pairs → Owned table.Seed pairs → seed-at pairs ≡ seed_means (gave pairs)
 unfolding seed-at
@@ -107,8 +105,8 @@ pub seed-ends : (pairs : Pairs) → Distinct pairs → Owned table.Seed pairs
     → verdict seed_run_in (shape table.Seed) (rests (rows pairs) None) [] ≡ seed_means (gave pairs)
 seed-ends pairs distinct owned =
     last-turn seed_run_in (shape table.Seed) (rests (rows pairs) None)
-    ∙ seed-closes seed_run_in (rows pairs) (has Seed pairs) (has Events pairs) (has-row Seed pairs) (has-row Events pairs) (is-given Seed pairs)
-    (is-given Events pairs)
+    ∙ valued-closes seed_run_in (shape table.Seed) (settings_of table.Seed) (rows pairs) refl refl
+    ∙ seed-closes seed_run_in (rows pairs) (has Seed pairs) (has Events pairs) (is-given Seed pairs) (is-given Events pairs)
     ∙ ap (λ (found : Option SeedRun). if has Seed pairs && has Events pairs then found else None) (seed-read pairs)
     ∙ seed-needed pairs (has Seed pairs) (has Events pairs) refl refl
     ∙ seed-gave pairs distinct owned
@@ -133,13 +131,13 @@ none-of-range : (setting : Setting) (figure : Setting → Option ℕ) → owns t
 none-of-range First figure is none = rw none refl
 none-of-range Seeds figure is none = rw none (range-2 (figure First) (figure Events))
 none-of-range Events figure is none = rw none (range-3 (figure First) (figure Seeds))
-none-of-range Seed figure is none = cc is
-none-of-range Workers figure is none = cc is
-none-of-range Side figure is none = cc is
-none-of-range Plain figure is none = cc is
-none-of-range Buffer figure is none = cc is
-none-of-range Most figure is none = cc is
-none-of-range Flow figure is none = cc is
+none-of-range Seed figure is none = absurd (false≢true is)
+none-of-range Workers figure is none = absurd (false≢true is)
+none-of-range Side figure is none = absurd (false≢true is)
+none-of-range Plain figure is none = absurd (false≢true is)
+none-of-range Buffer figure is none = absurd (false≢true is)
+none-of-range Most figure is none = absurd (false≢true is)
+none-of-range Flow figure is none = absurd (false≢true is)
 
 pub range-once : (setting : Setting) (text : Text) (all : Option (List Assignment)) (pairs : Pairs) → owns table.Seeds setting ≡ true → has setting pairs ≡ true
     → range_means (onto pairs (preceded (assigned setting text) all)) ≡ None
@@ -147,19 +145,12 @@ range-once setting text all pairs is twice =
     none-of-range setting (λ s. number_once s (onto pairs (preceded (assigned setting text) all))) is (ap number_among (twice-none setting text all pairs twice))
 
 module _ {X : Type 0} (judge : List Row → Option X) where
-  range-closes : (rs : List Row) (a b e : Bool) → has_row (codes "first") rs ≡ a → has_row (codes "seeds") rs ≡ b → has_row (codes "events") rs ≡ e
-      → is_given (codes "first") rs ≡ a → is_given (codes "seeds") rs ≡ b → is_given (codes "events") rs ≡ e
-      → passed (closes (shape table.Seeds) (holding rs None)) (judge (finished (shape table.Seeds).rules (holding rs None)))
-      ≡ (if a && (b && e) then judge rs else None)
-  unfolding defaults_fault
-  range-closes rs true true true f g h i j k = rw (f, g, h, i, j, k) refl
-  range-closes rs true true false f g h i j k = rw (f, g, h, i, j, k) refl
-  range-closes rs true false true f g h i j k = rw (f, g, h, i, j) refl
-  range-closes rs true false false f g h i j k = rw (f, g, h, i, j) refl
-  range-closes rs false true true f g h i j k = rw (f, g, h, i) refl
-  range-closes rs false true false f g h i j k = rw (f, g, h, i) refl
-  range-closes rs false false true f g h i j k = rw (f, g, h, i) refl
-  range-closes rs false false false f g h i j k = rw (f, g, h, i) refl
+  range-closes : (rs : List Row) (a b e : Bool) → is_given (codes "first") rs ≡ a → is_given (codes "seeds") rs ≡ b → is_given (codes "events") rs ≡ e
+      → passed (check_fault (shape table.Seeds) rs false) (judge rs) ≡ (if a && (b && e) then judge rs else None)
+  range-closes rs true true true f g h = rw (f, g, h) refl
+  range-closes rs true true false f g h = rw (f, g, h) refl
+  range-closes rs true false e f g h = rw (f, g) refl
+  range-closes rs false b e f g h = rw f refl
 
 range-at : (pairs : Pairs) → Option SeedRange
 range-at pairs = seed_range_from (number_at pairs First) (number_at pairs Seeds) (number_at pairs Events)
@@ -170,13 +161,13 @@ range-owned : (setting : Setting) → owns table.Seeds setting ≡ true → (pai
 range-owned First is pairs text at bad = ap (option_and_then (number_for First)) at ∙ unvalued First text refl bad
 range-owned Seeds is pairs text at bad = ap (option_and_then (number_for Seeds)) at ∙ unvalued Seeds text refl bad
 range-owned Events is pairs text at bad = ap (option_and_then (number_for Events)) at ∙ unvalued Events text refl bad
-range-owned Seed is pairs text at bad = cc is
-range-owned Workers is pairs text at bad = cc is
-range-owned Side is pairs text at bad = cc is
-range-owned Plain is pairs text at bad = cc is
-range-owned Buffer is pairs text at bad = cc is
-range-owned Most is pairs text at bad = cc is
-range-owned Flow is pairs text at bad = cc is
+range-owned Seed is pairs text at bad = absurd (false≢true is)
+range-owned Workers is pairs text at bad = absurd (false≢true is)
+range-owned Side is pairs text at bad = absurd (false≢true is)
+range-owned Plain is pairs text at bad = absurd (false≢true is)
+range-owned Buffer is pairs text at bad = absurd (false≢true is)
+range-owned Most is pairs text at bad = absurd (false≢true is)
+range-owned Flow is pairs text at bad = absurd (false≢true is)
 
 range-gave : (pairs : Pairs) → Distinct pairs → Owned table.Seeds pairs → range-at pairs ≡ range_means (gave pairs)
 unfolding range-at
@@ -213,8 +204,9 @@ pub range-ends : (pairs : Pairs) → Distinct pairs → Owned table.Seeds pairs
     → verdict seed_range_in (shape table.Seeds) (rests (rows pairs) None) [] ≡ range_means (gave pairs)
 range-ends pairs distinct owned =
     last-turn seed_range_in (shape table.Seeds) (rests (rows pairs) None)
-    ∙ range-closes seed_range_in (rows pairs) (has First pairs) (has Seeds pairs) (has Events pairs) (has-row First pairs) (has-row Seeds pairs)
-    (has-row Events pairs) (is-given First pairs) (is-given Seeds pairs) (is-given Events pairs)
+    ∙ valued-closes seed_range_in (shape table.Seeds) (settings_of table.Seeds) (rows pairs) refl refl
+    ∙ range-closes seed_range_in (rows pairs) (has First pairs) (has Seeds pairs) (has Events pairs) (is-given First pairs) (is-given Seeds pairs)
+    (is-given Events pairs)
     ∙ ap (λ (found : Option SeedRange). if has First pairs && (has Seeds pairs && has Events pairs) then found else None) (range-read pairs)
     ∙ range-needed pairs (has First pairs) (has Seeds pairs) (has Events pairs) refl refl refl
     ∙ range-gave pairs distinct owned
@@ -233,25 +225,21 @@ pub flow-once : (setting : Setting) (text : Text) (all : Option (List Assignment
 flow-once Flow text all pairs is twice = rw (twice-none Flow text all pairs twice) refl
 flow-once Side text all pairs is twice =
     rw (twice-none Side text all pairs twice) (no-flow-side (number_once Flow (onto pairs (preceded (assigned Side text) all))))
-flow-once First text all pairs is twice = cc is
-flow-once Seeds text all pairs is twice = cc is
-flow-once Events text all pairs is twice = cc is
-flow-once Workers text all pairs is twice = cc is
-flow-once Plain text all pairs is twice = cc is
-flow-once Buffer text all pairs is twice = cc is
-flow-once Most text all pairs is twice = cc is
-flow-once Seed text all pairs is twice = cc is
+flow-once First text all pairs is twice = absurd (false≢true is)
+flow-once Seeds text all pairs is twice = absurd (false≢true is)
+flow-once Events text all pairs is twice = absurd (false≢true is)
+flow-once Workers text all pairs is twice = absurd (false≢true is)
+flow-once Plain text all pairs is twice = absurd (false≢true is)
+flow-once Buffer text all pairs is twice = absurd (false≢true is)
+flow-once Most text all pairs is twice = absurd (false≢true is)
+flow-once Seed text all pairs is twice = absurd (false≢true is)
 
 module _ {X : Type 0} (judge : List Row → Option X) where
-  flow-closes : (rs : List Row) (a b : Bool) → has_row (codes "flow") rs ≡ a → has_row (codes "side") rs ≡ b → is_given (codes "flow") rs ≡ a
-      → is_given (codes "side") rs ≡ b
-      → passed (closes (shape table.Frames) (holding rs None)) (judge (finished (shape table.Frames).rules (holding rs None)))
-      ≡ (if a && b then judge rs else None)
-  unfolding defaults_fault
-  flow-closes rs true true f g h i = rw (f, g, h, i) refl
-  flow-closes rs true false f g h i = rw (f, g, h, i) refl
-  flow-closes rs false true f g h i = rw (f, g, h) refl
-  flow-closes rs false false f g h i = rw (f, g, h) refl
+  flow-closes : (rs : List Row) (a b : Bool) → is_given (codes "flow") rs ≡ a → is_given (codes "side") rs ≡ b
+      → passed (check_fault (shape table.Frames) rs false) (judge rs) ≡ (if a && b then judge rs else None)
+  flow-closes rs true true f g = rw (f, g) refl
+  flow-closes rs true false f g = rw (f, g) refl
+  flow-closes rs false b f g = rw f refl
 
 -- the side that the text of `--side` is
 abbrev side_at : Pairs → Option EndSide
@@ -288,14 +276,14 @@ flow-bad pairs Flow text own at bad =
 flow-bad pairs Side text own at bad =
     ap (λ (side : Option EndSide). flow_side_from (number_at pairs Flow) side) (ap (option_and_then side_in) at ∙ no-side-in (side_in text) bad)
     ∙ no-flow-side (number_at pairs Flow)
-flow-bad pairs First text own at bad = cc own
-flow-bad pairs Seeds text own at bad = cc own
-flow-bad pairs Events text own at bad = cc own
-flow-bad pairs Workers text own at bad = cc own
-flow-bad pairs Plain text own at bad = cc own
-flow-bad pairs Buffer text own at bad = cc own
-flow-bad pairs Most text own at bad = cc own
-flow-bad pairs Seed text own at bad = cc own
+flow-bad pairs First text own at bad = absurd (false≢true own)
+flow-bad pairs Seeds text own at bad = absurd (false≢true own)
+flow-bad pairs Events text own at bad = absurd (false≢true own)
+flow-bad pairs Workers text own at bad = absurd (false≢true own)
+flow-bad pairs Plain text own at bad = absurd (false≢true own)
+flow-bad pairs Buffer text own at bad = absurd (false≢true own)
+flow-bad pairs Most text own at bad = absurd (false≢true own)
+flow-bad pairs Seed text own at bad = absurd (false≢true own)
 
 flow-gave : (pairs : Pairs) → Distinct pairs → Owned table.Frames pairs → flow-at pairs ≡ flow_means (gave pairs)
 unfolding flow-at
@@ -325,8 +313,8 @@ pub flow-ends : (pairs : Pairs) → Distinct pairs → Owned table.Frames pairs
     → verdict flow_side_in (shape table.Frames) (rests (rows pairs) None) [] ≡ flow_means (gave pairs)
 flow-ends pairs distinct owned =
     last-turn flow_side_in (shape table.Frames) (rests (rows pairs) None)
-    ∙ flow-closes flow_side_in (rows pairs) (has Flow pairs) (has Side pairs) (has-row Flow pairs) (has-row Side pairs) (is-given Flow pairs)
-    (is-given Side pairs)
+    ∙ valued-closes flow_side_in (shape table.Frames) (settings_of table.Frames) (rows pairs) refl refl
+    ∙ flow-closes flow_side_in (rows pairs) (has Flow pairs) (has Side pairs) (is-given Flow pairs) (is-given Side pairs)
     ∙ ap (λ (found : Option FlowSide). if has Flow pairs && has Side pairs then found else None) (flow-read pairs)
     ∙ flow-needed pairs (has Flow pairs) (has Side pairs) refl refl
     ∙ flow-gave pairs distinct owned

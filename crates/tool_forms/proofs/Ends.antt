@@ -1,8 +1,11 @@
 -- The result of a form's command after the last word.
-use Rattle.std.proofs.Common.{◌≡◌, ◌∙◌, ◌&&◌, refl, sym, ap, ap₂, subst, ℕ, Bool, true, false, List, [], ◌∷◌, ◌++◌, map, Option, Some, None, is_some, option_and_then, codes}
+use Rattle.std.proofs.Common.{◌≡◌, ◌∙◌, ◌&&◌, ◌||◌, fold, refl, sym, ap, ap₂, subst, ℕ, Bool, true, false, List, [], ◌∷◌, ◌++◌, map, Option, Some, None, is_some, option_and_then, codes}
 use Rattle.std.specs.Prelude.{if◌then◌else◌}
+use Rattle.std.specs.List.{list_any}
+use Rattle.std.proofs.lemmas.Bool.{false≢true}
 use Rattle.clap.specs.Kinds.{Kinds, or_else}
 use Rattle.clap.specs.Walk.{Row, Text, default_rows, finished, first_of, has_row, more_values, reading_by, with_default}
+use Rattle.clap.specs.Simple.{Shape}
 use Rattle.clap.specs.Takes.{is_given}
 use Rattle.clap.specs.Faults.{check_fault, default_fault, defaults_fault}
 use Rattle.clap.specs.declared.parser.matches.ValueSource.TheVariants.{DefaultValue}
@@ -26,6 +29,53 @@ use Rattle.tool_forms.proofs.Turns.{closes, holding, last-turn, passed, rests, v
 use Rattle.tool_forms.proofs.Pairs.{Distinct, FitsRow, Pairs, argument, argument_by, first-of, has, has-row, is-given, is-itself, rows, same-settings, some-is, text_at, unmet}
 use Rattle.tool_forms.proofs.Onto.{assigned, found_at, gave, once-gave, onto, twice-none, value_of}
 use Rattle.tool_forms.proofs.Reading.{Owned, owns, shape}
+
+-- no default is refused, and a setting with a value has none
+default-passes : (w : Way) (name : Text) (rs : List Row) (b : Bool) → has_row name rs ≡ b → default_fault rs (argument_by w name) ≡ []
+default-passes way.Needed name rs true is = rw is refl
+default-passes way.Needed name rs false is = rw is refl
+default-passes way.Chosen name rs true is = rw is refl
+default-passes way.Chosen name rs false is = rw is refl
+default-passes way.Mark name rs true is = rw is refl
+default-passes way.Mark name rs false is = rw is refl
+
+defaults-pass : (settings : List Setting) (rs : List Row) → defaults_fault rs (map argument settings) ≡ []
+unfolding defaults_fault
+defaults-pass [] rs = refl
+defaults-pass (s ∷ settings) rs =
+    ap (λ (first : Kinds). or_else first (defaults_fault (with_default rs (argument s)) (map argument settings)))
+    (default-passes (way_of s) (bare_name s) rs (has_row (bare_name s) rs) refl)
+    ∙ defaults-pass settings (with_default rs (argument s))
+
+no-default : (w : Way) (name : Text) (rs : List Row) (b : Bool) → has_row name rs ≡ b → is_marking w ≡ false → with_default rs (argument_by w name) ≡ rs
+no-default way.Needed name rs true has is = rw has refl
+no-default way.Needed name rs false has is = rw has refl
+no-default way.Chosen name rs true has is = rw has refl
+no-default way.Chosen name rs false has is = rw has refl
+no-default way.Mark name rs b has is = cc is
+
+no-defaults : (settings : List Setting) (rs : List Row) → list_any (λ s. is_marking (way_of s)) settings ≡ false
+    → fold with_default rs (map argument settings) ≡ rs
+no-defaults [] rs valued = refl
+no-defaults (s ∷ settings) rs valued = go (is_marking (way_of s)) refl valued (no-defaults settings rs)
+  where
+    go : (b : Bool) → is_marking (way_of s) ≡ b → (b || list_any (λ s. is_marking (way_of s)) settings) ≡ false
+        → (list_any (λ s. is_marking (way_of s)) settings ≡ false → fold with_default rs (map argument settings) ≡ rs)
+        → fold with_default rs (map argument (s ∷ settings)) ≡ rs
+    go true is valued rest = absurd (false≢true (sym valued))
+    go false is valued rest =
+        ap (λ (r : List Row). fold with_default r (map argument settings))
+        (no-default (way_of s) (bare_name s) rs (has_row (bare_name s) rs) refl is)
+        ∙ rest valued
+
+module _ {X : Type 0} (judge : List Row → Option X) where
+  -- if all settings have values, only what is required is judged after the last word
+  pub valued-closes : (s : Shape) (settings : List Setting) (rs : List Row) → s.rules ≡ map argument settings
+      → list_any (λ s. is_marking (way_of s)) settings ≡ false
+      → passed (closes s (holding rs None)) (judge (finished s.rules (holding rs None))) ≡ passed (check_fault s rs false) (judge rs)
+  valued-closes s settings rs is valued =
+      ap₂ (λ (faults : Kinds) (last : List Row). passed (or_else faults (check_fault s last false)) (judge last))
+      (ap (defaults_fault rs) is ∙ defaults-pass settings rs) (ap (fold with_default rs) is ∙ no-defaults settings rs valued)
 
 -- ---- campaign
 
@@ -61,12 +111,12 @@ one-none First figure is none = rw none refl
 one-none Seeds figure is none = rw none (chain-2 (figure First) (figure Events) (figure Workers))
 one-none Events figure is none = rw none (chain-3 (figure First) (figure Seeds) (figure Workers))
 one-none Workers figure is none = rw none (chain-4 (figure First) (figure Seeds) (figure Events))
-one-none Side figure is none = cc is
-one-none Plain figure is none = cc is
-one-none Buffer figure is none = cc is
-one-none Most figure is none = cc is
-one-none Seed figure is none = cc is
-one-none Flow figure is none = cc is
+one-none Side figure is none = absurd (false≢true is)
+one-none Plain figure is none = absurd (false≢true is)
+one-none Buffer figure is none = absurd (false≢true is)
+one-none Most figure is none = absurd (false≢true is)
+one-none Seed figure is none = absurd (false≢true is)
+one-none Flow figure is none = absurd (false≢true is)
 
 pub campaign-once : (setting : Setting) (text : Text) (all : Option (List Assignment)) (pairs : Pairs) → owns table.Campaign setting ≡ true
     → has setting pairs ≡ true
@@ -75,28 +125,14 @@ campaign-once setting text all pairs is twice =
     one-none setting (λ s. number_once s (onto pairs (preceded (assigned setting text) all))) is (ap number_among (twice-none setting text all pairs twice))
 
 module _ {X : Type 0} (judge : List Row → Option X) where
-  campaign-closes : (rs : List Row) (a b e d : Bool) → has_row (codes "first") rs ≡ a → has_row (codes "seeds") rs ≡ b → has_row (codes "events") rs ≡ e
-      → has_row (codes "workers") rs ≡ d → is_given (codes "first") rs ≡ a → is_given (codes "seeds") rs ≡ b → is_given (codes "events") rs ≡ e
-      → is_given (codes "workers") rs ≡ d
-      → passed (closes (shape table.Campaign) (holding rs None)) (judge (finished (shape table.Campaign).rules (holding rs None)))
-      ≡ (if a && (b && (e && d)) then judge rs else None)
-  unfolding defaults_fault
-  campaign-closes rs true true true true f g h i j k l m = rw (f, g, h, i, j, k, l, m) refl
-  campaign-closes rs true true true false f g h i j k l m = rw (f, g, h, i, j, k, l, m) refl
-  campaign-closes rs true true false true f g h i j k l m = rw (f, g, h, i, j, k, l) refl
-  campaign-closes rs true true false false f g h i j k l m = rw (f, g, h, i, j, k, l) refl
-  campaign-closes rs true false true true f g h i j k l m = rw (f, g, h, i, j, k) refl
-  campaign-closes rs true false true false f g h i j k l m = rw (f, g, h, i, j, k) refl
-  campaign-closes rs true false false true f g h i j k l m = rw (f, g, h, i, j, k) refl
-  campaign-closes rs true false false false f g h i j k l m = rw (f, g, h, i, j, k) refl
-  campaign-closes rs false true true true f g h i j k l m = rw (f, g, h, i, j) refl
-  campaign-closes rs false true true false f g h i j k l m = rw (f, g, h, i, j) refl
-  campaign-closes rs false true false true f g h i j k l m = rw (f, g, h, i, j) refl
-  campaign-closes rs false true false false f g h i j k l m = rw (f, g, h, i, j) refl
-  campaign-closes rs false false true true f g h i j k l m = rw (f, g, h, i, j) refl
-  campaign-closes rs false false true false f g h i j k l m = rw (f, g, h, i, j) refl
-  campaign-closes rs false false false true f g h i j k l m = rw (f, g, h, i, j) refl
-  campaign-closes rs false false false false f g h i j k l m = rw (f, g, h, i, j) refl
+  campaign-closes : (rs : List Row) (a b e d : Bool) → is_given (codes "first") rs ≡ a → is_given (codes "seeds") rs ≡ b
+      → is_given (codes "events") rs ≡ e → is_given (codes "workers") rs ≡ d
+      → passed (check_fault (shape table.Campaign) rs false) (judge rs) ≡ (if a && (b && (e && d)) then judge rs else None)
+  campaign-closes rs true true true true f g h i = rw (f, g, h, i) refl
+  campaign-closes rs true true true false f g h i = rw (f, g, h, i) refl
+  campaign-closes rs true true false d f g h i = rw (f, g, h) refl
+  campaign-closes rs true false e d f g h i = rw (f, g) refl
+  campaign-closes rs false b e d f g h i = rw f refl
 
 abbrev pub number_at : Pairs → Setting → Option ℕ
 number_at pairs setting = option_and_then (number_for setting) (text_at setting pairs)
@@ -155,8 +191,8 @@ figure-value First text is = refl
 figure-value Seeds text is = refl
 figure-value Events text is = refl
 figure-value Workers text is = refl
-figure-value Side text is = cc is
-figure-value Plain text is = cc is
+figure-value Side text is = absurd (false≢true is)
+figure-value Plain text is = absurd (false≢true is)
 figure-value Buffer text is = refl
 figure-value Most text is = refl
 figure-value Seed text is = refl
@@ -185,8 +221,8 @@ pub unvalued : (setting : Setting) (text : Text) → is_figure setting ≡ true 
 unvalued setting text is bad = unnumbered (number_for setting text) (sym (figure-value setting text is) ∙ bad)
 
 figures : (setting : Setting) → owns table.Campaign setting ≡ true → is_figure setting ≡ true
-figures Side is = cc is
-figures Plain is = cc is
+figures Side is = absurd (false≢true is)
+figures Plain is = absurd (false≢true is)
 figures First is = refl
 figures Seeds is = refl
 figures Events is = refl
@@ -240,9 +276,9 @@ pub campaign-ends : (pairs : Pairs) → Distinct pairs → Owned table.Campaign 
     → verdict campaign_in (shape table.Campaign) (rests (rows pairs) None) [] ≡ campaign_means (gave pairs)
 campaign-ends pairs distinct owned =
     last-turn campaign_in (shape table.Campaign) (rests (rows pairs) None)
-    ∙ campaign-closes campaign_in (rows pairs) (has First pairs) (has Seeds pairs) (has Events pairs) (has Workers pairs) (has-row First pairs)
-    (has-row Seeds pairs)
-    (has-row Events pairs) (has-row Workers pairs) (is-given First pairs) (is-given Seeds pairs) (is-given Events pairs) (is-given Workers pairs)
+    ∙ valued-closes campaign_in (shape table.Campaign) (settings_of table.Campaign) (rows pairs) refl refl
+    ∙ campaign-closes campaign_in (rows pairs) (has First pairs) (has Seeds pairs) (has Events pairs) (has Workers pairs) (is-given First pairs)
+    (is-given Seeds pairs) (is-given Events pairs) (is-given Workers pairs)
     ∙ ap (λ (found : Option Campaign). if has First pairs && (has Seeds pairs && (has Events pairs && has Workers pairs)) then found else None)
     (judged-at pairs)
     ∙ all-needed pairs (has First pairs) (has Seeds pairs) (has Events pairs) (has Workers pairs) refl refl refl refl
@@ -269,11 +305,10 @@ listen-once setting text all pairs is twice =
     (ap (λ (found : Option (Option Value)). listener_for (number_among found)) (twice-none setting text all pairs twice))
 
 module _ {X : Type 0} (judge : List Row → Option X) where
-  listen-closes : (rs : List Row) (a : Bool) → has_row (codes "most") rs ≡ a → is_given (codes "most") rs ≡ a
-      → passed (closes (shape table.Listen) (holding rs None)) (judge (finished (shape table.Listen).rules (holding rs None))) ≡ (if a then judge rs else None)
-  unfolding defaults_fault
-  listen-closes rs true f g = rw (f, g) refl
-  listen-closes rs false f g = rw (f, g) refl
+  listen-closes : (rs : List Row) (a : Bool) → is_given (codes "most") rs ≡ a
+      → passed (check_fault (shape table.Listen) rs false) (judge rs) ≡ (if a then judge rs else None)
+  listen-closes rs true f = rw f refl
+  listen-closes rs false f = rw f refl
 
 most-gave : (pairs : Pairs) → Distinct pairs → Owned table.Listen pairs → number_at pairs Most ≡ number_once Most (gave pairs)
 most-gave pairs distinct owned = go (gave pairs) refl
@@ -291,7 +326,8 @@ pub listen-ends : (pairs : Pairs) → Distinct pairs → Owned table.Listen pair
     → verdict listen_in (shape table.Listen) (rests (rows pairs) None) [] ≡ listen_means (gave pairs)
 listen-ends pairs distinct owned =
     last-turn listen_in (shape table.Listen) (rests (rows pairs) None)
-    ∙ listen-closes listen_in (rows pairs) (has Most pairs) (has-row Most pairs) (is-given Most pairs)
+    ∙ valued-closes listen_in (shape table.Listen) (settings_of table.Listen) (rows pairs) refl refl
+    ∙ listen-closes listen_in (rows pairs) (has Most pairs) (is-given Most pairs)
     ∙ ap (λ (text : Option Text). if has Most pairs then listener_for (option_and_then (number_for Most) text) else None) (first-of Most pairs)
     ∙ needed (has Most pairs) refl
     ∙ ap listener_for (most-gave pairs distinct owned)
@@ -328,13 +364,13 @@ replay-once Buffer text all pairs is twice =
     rw (twice-none Buffer text all pairs twice)
     (no-buffer (option_and_then (once Plain) (onto pairs (preceded (assigned Buffer text) all)))
     (side_given (option_and_then (once Side) (onto pairs (preceded (assigned Buffer text) all)))))
-replay-once First text all pairs is twice = cc is
-replay-once Seeds text all pairs is twice = cc is
-replay-once Events text all pairs is twice = cc is
-replay-once Workers text all pairs is twice = cc is
-replay-once Most text all pairs is twice = cc is
-replay-once Seed text all pairs is twice = cc is
-replay-once Flow text all pairs is twice = cc is
+replay-once First text all pairs is twice = absurd (false≢true is)
+replay-once Seeds text all pairs is twice = absurd (false≢true is)
+replay-once Events text all pairs is twice = absurd (false≢true is)
+replay-once Workers text all pairs is twice = absurd (false≢true is)
+replay-once Most text all pairs is twice = absurd (false≢true is)
+replay-once Seed text all pairs is twice = absurd (false≢true is)
+replay-once Flow text all pairs is twice = absurd (false≢true is)
 
 -- the row of the mark where it is not given, and the rows with it
 unmarked : Row
@@ -396,30 +432,6 @@ has-text setting (pair ∷ pairs) = go (is_same pair.0 setting) refl (has-text s
         → is_some (text_at setting (pair ∷ pairs)) ≡ has setting (pair ∷ pairs)
     go true same rest = rw same refl
     go false other rest = rw other rest
-
--- no default is refused, and a setting with a value has none
-default-passes : (w : Way) (name : Text) (rs : List Row) (b : Bool) → has_row name rs ≡ b → default_fault rs (argument_by w name) ≡ []
-default-passes way.Needed name rs true is = rw is refl
-default-passes way.Needed name rs false is = rw is refl
-default-passes way.Chosen name rs true is = rw is refl
-default-passes way.Chosen name rs false is = rw is refl
-default-passes way.Mark name rs true is = rw is refl
-default-passes way.Mark name rs false is = rw is refl
-
-defaults-pass : (settings : List Setting) (rs : List Row) → defaults_fault rs (map argument settings) ≡ []
-unfolding defaults_fault
-defaults-pass [] rs = refl
-defaults-pass (s ∷ settings) rs =
-    ap (λ (first : Kinds). or_else first (defaults_fault (with_default rs (argument s)) (map argument settings)))
-    (default-passes (way_of s) (bare_name s) rs (has_row (bare_name s) rs) refl)
-    ∙ defaults-pass settings (with_default rs (argument s))
-
-no-default : (w : Way) (name : Text) (rs : List Row) (b : Bool) → has_row name rs ≡ b → is_marking w ≡ false → with_default rs (argument_by w name) ≡ rs
-no-default way.Needed name rs true has is = rw has refl
-no-default way.Needed name rs false has is = rw has refl
-no-default way.Chosen name rs true has is = rw has refl
-no-default way.Chosen name rs false has is = rw has refl
-no-default way.Mark name rs b has is = cc is
 
 replay-finished : (rs : List Row) → finished (shape table.Replay).rules (holding rs None) ≡ with_default rs (argument Plain)
 replay-finished rs =
@@ -555,13 +567,13 @@ replay-bad pairs Buffer text own at bad =
     (λ side. option_and_then (λ buffer. Some (replay_with side (has Plain pairs) buffer)) (option_and_then (λ n. Some (Some n)) n))
     (option_and_then side_in (text_at Side pairs))) (unvalued Buffer text refl bad)
     ∙ no-capacity (option_and_then side_in (text_at Side pairs)) (has Plain pairs)
-replay-bad pairs First text own at bad = cc own
-replay-bad pairs Seeds text own at bad = cc own
-replay-bad pairs Events text own at bad = cc own
-replay-bad pairs Workers text own at bad = cc own
-replay-bad pairs Most text own at bad = cc own
-replay-bad pairs Seed text own at bad = cc own
-replay-bad pairs Flow text own at bad = cc own
+replay-bad pairs First text own at bad = absurd (false≢true own)
+replay-bad pairs Seeds text own at bad = absurd (false≢true own)
+replay-bad pairs Events text own at bad = absurd (false≢true own)
+replay-bad pairs Workers text own at bad = absurd (false≢true own)
+replay-bad pairs Most text own at bad = absurd (false≢true own)
+replay-bad pairs Seed text own at bad = absurd (false≢true own)
+replay-bad pairs Flow text own at bad = absurd (false≢true own)
 
 replay-gave : (pairs : Pairs) → Distinct pairs → Owned table.Replay pairs → replay_at pairs ≡ replay_means (gave pairs)
 replay-gave pairs distinct owned = go (gave pairs) refl
