@@ -1,42 +1,29 @@
 -- The lines that come before all events are judged as their calls say, and put no text.
-use Rattle.std.proofs.Common.{rules, ◌≡◌, sym, subst, Ok}
-use Rattle.schedule_text.specs.declared.line.Line.{Line}
+use Rattle.std.proofs.Common.{rules, ◌≡◌}
 use Rattle.schedule_text.specs.declared.line.Line.TheVariants as line
-use Rattle.tool_text.specs.Jobs.{Judges}
-use Rattle.tool_jobs.specs.Transcript.{by_line, run_job}
 use Rattle.tool_jobs.proofs.run.play.Play.say.Goals as goal
 
 pub returns-in-Version-clause-verdict : goal.returns-in-Version-clause-verdict
 returns-in-Version-clause-verdict c =
     let is : c.args.said.now ≡ line.Version c.in-Version.number = search rules in
-    subst
-    (λ (said : Line). Judges run_job (by_line c.args.self.now c.args.number (Ok said)) c.args.text.now.items c.args.text.now.items c.say_version.new.self c.say_version.result)
-    (sym is) (c.say_version.ensures.verdict c.args.text.now.items)
+    rw is (c.say_version.ensures.verdict c.args.text.now.items)
 
 pub returns-in-Plain-clause-verdict : goal.returns-in-Plain-clause-verdict
 returns-in-Plain-clause-verdict c =
     let is : c.args.said.now ≡ line.Plain = search rules in
-    subst
-    (λ (said : Line). Judges run_job (by_line c.args.self.now c.args.number (Ok said)) c.args.text.now.items c.args.text.now.items c.say_plain.new.self c.say_plain.result)
-    (sym is) (c.say_plain.ensures.verdict c.args.text.now.items)
+    rw is (c.say_plain.ensures.verdict c.args.text.now.items)
 
 pub returns-in-Iss-clause-verdict : goal.returns-in-Iss-clause-verdict
 returns-in-Iss-clause-verdict c =
     let is : c.args.said.now ≡ line.Iss c.in-Iss.side c.in-Iss.number = search rules in
-    subst
-    (λ (said : Line). Judges run_job (by_line c.args.self.now c.args.number (Ok said)) c.args.text.now.items c.args.text.now.items c.say_iss.new.self c.say_iss.result)
-    (sym is) (c.say_iss.ensures.verdict c.args.text.now.items)
+    rw is (c.say_iss.ensures.verdict c.args.text.now.items)
 
 pub returns-in-Set-clause-verdict : goal.returns-in-Set-clause-verdict
 returns-in-Set-clause-verdict c =
     let is : c.args.said.now ≡ line.Set c.in-Set.side c.in-Set.place c.in-Set.feature c.numbers.result.now = search rules in
-    subst
-    (λ (said : Line). Judges run_job (by_line c.args.self.now c.args.number (Ok said)) c.args.text.now.items c.args.text.now.items c.say_set.new.self c.say_set.result)
-    (sym is) (c.say_set.ensures.verdict c.args.text.now.items)
+    rw is (c.say_set.ensures.verdict c.args.text.now.items)
 
 pub returns-in-Offer-clause-verdict : goal.returns-in-Offer-clause-verdict
 returns-in-Offer-clause-verdict c =
     let is : c.args.said.now ≡ line.Offer c.in-Offer.side c.in-Offer.place c.in-Offer.feature c.in-Offer.mandatory = search rules in
-    subst
-    (λ (said : Line). Judges run_job (by_line c.args.self.now c.args.number (Ok said)) c.args.text.now.items c.args.text.now.items c.say_offer.new.self c.say_offer.result)
-    (sym is) (c.say_offer.ensures.verdict c.args.text.now.items)
+    rw is (c.say_offer.ensures.verdict c.args.text.now.items)
