@@ -3,21 +3,23 @@ use Rattle.std.proofs.Common.{◌≡◌, refl, ℕ, List, [], ◌∷◌, Bool, t
 use Rattle.congestion_trait.specs.Control.{Control, may_send}
 use Rattle.dccp_endpoint.specs.Controlled.{End, EndStep, has_in_flight, in_flight_of, with_control}
 use Rattle.dccp_endpoint.specs.End.{held_of}
-use Rattle.dccp_endpoint.specs.Calling.{aborts, closes, opens, prefers, sends_payload}
+use Rattle.dccp_endpoint.specs.Calling.{aborts, closes, fires, opens, prefers, sends_payload}
 use Rattle.dccp_endpoint.specs.Early.{is_part_open, sends_by, sends_early}
 use Rattle.dccp_endpoint.specs.Inputs.{Input}
 use Rattle.dccp_endpoint.specs.Inputs as input
+use Rattle.dccp_states.specs.declared.calls.Timer.{Timer}
 use Rattle.dccp_states.specs.declared.calls.Timer.TheVariants as timers
 use Rattle.feature_lists.specs.declared.features.Feature.{Feature}
 use Rattle.feature_lists.specs.declared.features.Feature.TheVariants.{AckRatio}
 use Rattle.feature_lists.specs.declared.features.Place.{Place}
 use Rattle.feature_lists.specs.declared.features.Place.TheVariants.{Here}
+use Rattle.dccp_uses.specs.Alarms.{is_idle}
 use Rattle.dccp_uses.specs.Inputs.{IsItsOwn, StepsAreInputs, TookOne, TookOneInput, end_after_input, frame_after_input}
 use Rattle.dccp_uses.specs.Reader.{restraint_of}
 use Rattle.dccp_uses.specs.Rules.{due_rule, rule_does}
 use Rattle.dccp_uses.specs.Syncs.{admitted}
 use Rattle.dccp_uses.specs.Path.{handshake_timed}
-use Rattle.dccp_uses.specs.Timed.{TimedState, due_told, heard_if, path_sent, timed_aborts, timed_called, timed_calls, timed_closes, timed_opens, timed_prefers, timed_sends_by}
+use Rattle.dccp_uses.specs.Timed.{TimedState, due_told, heard_if, path_sent, timed_aborts, timed_called, timed_calls, timed_closes, timed_opens, timed_prefers, timed_sends_by, timed_told_if}
 use Rattle.dccp_uses.specs.declared.alarms.Alarms.{Alarms}
 use Rattle.dccp_uses.specs.declared.path.Path.{Path}
 use Rattle.dccp_uses.specs.declared.reader.Restraint.{Restraint}
@@ -78,9 +80,17 @@ module _ {C : Type 0} (control : Control C) where
       record { given = Some (input.Prefers (AckRatio, Here) ((held_of e.state AckRatio Here).value ∷ [])); own = tt; end_is = refl; frame_is = refl }
   ruled-one e rule.Ratio aim = record { given = Some (input.Prefers (AckRatio, Here) (aim ∷ [])); own = tt; end_is = refl; frame_is = refl }
 
-  told-one : (now : ℕ) (s : TimedState C) (it : Due) → TookOne control s (due_told control now s it)
-  told-one now s (due.Timer timer) =
+  abbrev rung : TimedState C → Timer → EndStep C Bool
+  rung s timer = with_control control s.end.congestion (fires s.end.state timer (has_in_flight control s.end.congestion))
+
+  rung-one : (now : ℕ) (s : TimedState C) (timer : Timer) (idle : Bool) → TookOne control s (timed_told_if control now s timer (rung s timer) idle)
+  rung-one now s timer true =
       record { given = Some (input.Fires timer (has_in_flight control s.end.congestion)); own = refl; end_is = refl; frame_is = refl }
+  rung-one now s timer false =
+      record { given = Some (input.Fires timer (has_in_flight control s.end.congestion)); own = refl; end_is = refl; frame_is = refl }
+
+  told-one : (now : ℕ) (s : TimedState C) (it : Due) → TookOne control s (due_told control now s it)
+  told-one now s (due.Timer timer) = rung-one now s timer (is_idle s.alarms timer (rung s timer).after.state.phase)
   told-one now s due.Rules =
       let one = ruled-one s.end (due_rule s.path now) s.path.aim in
       record { given = one.given; own = one.own; end_is = one.end_is; frame_is = one.frame_is }
