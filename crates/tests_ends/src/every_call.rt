@@ -63,7 +63,7 @@ fn opens_and_aborts(session: &mut Session<OneAtATime>) -> bool {
     let mut network = Count(0);
     session.open(0, &mut network).is_ok()
         && session.room() == 1
-        && session.until_first(400) == Some(600)
+        && matches!(session.until_first(400), Some(600))
         && session.alarms().request.is_some()
         && session.abort(500, &mut network).is_ok()
         && network.0 == 1

@@ -44,7 +44,7 @@ fn takes(listener: &mut Listener, first: Seq48, out: &mut Outbox) -> bool {
         Some(end) => end.phase() == Phase::Respond,
         None => false,
     };
-    heard == Ok(Heard::Flow(Outcome::Took { delivered: None }))
+    matches!(heard, Ok(Heard::Flow(Outcome::Took { delivered: None })))
         && has_type(out, 3)
         && stands
         && listener.flows() == 1
@@ -53,7 +53,7 @@ fn takes(listener: &mut Listener, first: Seq48, out: &mut Outbox) -> bool {
 // Whether the other peer's Request is answered by a Reset, and nothing changes.
 fn is_busy(listener: &mut Listener, first: Seq48, out: &mut Outbox) -> bool {
     let heard = listener.arrive(peer(3), first, &OTHER_REQUEST, out);
-    heard == Ok(Heard::Busy)
+    matches!(heard, Ok(Heard::Busy))
         && has_type(out, 0x0f)
         && listener.flows() == 1
         && listener.peer(0) == Some(peer(1))

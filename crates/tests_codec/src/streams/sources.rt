@@ -46,8 +46,9 @@ fn gives_to_a_limit(alloc: Global) -> Result<bool, Fail> {
 fn fails_in_the_middle(alloc: Global) -> Result<bool, Fail> {
     let mut source = source_of(alloc, b"hello", 2, 2)?;
     let mut block = [0; 4];
-    let first = source.read(&mut block) == Ok(2);
-    Ok(first && source.read(&mut block) == Err(Failed) && block == [104, 101, 0, 0])
+    let first = matches!(source.read(&mut block), Ok(2));
+    let failed = matches!(source.read(&mut block), Err(Failed));
+    Ok(first && failed && block == [104, 101, 0, 0])
 }
 
 fn is_lost(alloc: Global) -> Result<bool, Fail> {
@@ -159,7 +160,7 @@ fn takes_narrowly(alloc: Global) -> bool {
 
 // The third call fails, and writing goes on after what was taken.
 fn takes_the_rest(sink: &mut MemorySink) -> bool {
-    write_all(sink, b"hello") == Err(Failed)
+    matches!(write_all(sink, b"hello"), Err(Failed))
         && write_all(sink, b"llo").is_ok()
         && sink.taken() == b"hello".as_slice()
 }
@@ -228,7 +229,7 @@ fn is_one(lines: &mut Lines<MemorySource>) -> bool {
 fn stays_failed(lines: &mut Lines<MemorySource>) -> bool {
     let first = matches!(lines.next(), Err(LinesFault::Read));
     let again = matches!(lines.next(), Err(LinesFault::Read));
-    first && again && lines.holds_next() && lines.find() == Err(Stop::Failed)
+    first && again && lines.holds_next() && matches!(lines.find(), Err(Stop::Failed))
 }
 
 // The second call of the source fails, and the third would not.

@@ -49,10 +49,12 @@ fn reader(alloc: Global) -> Option<BufferedEnd<Kinds>> {
 
 impl Pair {
     fn new(alloc: Global) -> Option<Pair> {
+        let sender = sender(alloc)?;
+        let reader = reader(alloc)?;
         Some(Pair {
             now: 5_000,
-            sender: sender(alloc)?,
-            reader: reader(alloc)?,
+            sender,
+            reader,
             to_sender: Wire::whole(alloc),
             to_reader: Wire::whole(alloc),
             read: 0,
@@ -156,7 +158,7 @@ impl Pair {
 // Nobody reads: eight packets are held, and each further one is dropped and narrows the window, down to one packet.
 fn narrows(pair: &mut Pair) -> bool {
     pair.stream(40, 0);
-    pair.most() == Some(1)
+    matches!(pair.most(), Some(1))
 }
 
 // The owner reads two packets a turn: nearly each turn brings them, and the window is two packets wide, or a few.
@@ -171,7 +173,7 @@ fn follows(pair: &mut Pair) -> bool {
 fn ends(pair: &mut Pair) -> bool {
     pair.reader.stop();
     pair.stream(40, 0);
-    pair.send() == Err(SendRefusal::Held(Restraint::NotListening))
+    matches!(pair.send(), Err(SendRefusal::Held(Restraint::NotListening)))
 }
 
 // The first of these that does not hold.

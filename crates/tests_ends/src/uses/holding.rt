@@ -62,9 +62,10 @@ impl Pair {
     fn new(alloc: Global) -> Option<Pair> {
         let intake = Intake::new(alloc, CAPACITY).ok()?;
         let reader = session(alloc, Role::Server)?.holding(intake);
+        let sender = session(alloc, Role::Client)?;
         Some(Pair {
             now: 5_000,
-            sender: session(alloc, Role::Client)?,
+            sender,
             reader,
             to_sender: Wire::whole(alloc),
             to_reader: Wire::whole(alloc),
@@ -163,7 +164,7 @@ fn fills(pair: &mut Pair) -> bool {
     pair.stream(40, 0);
     pair.told.waited == 8
         && (0 < pair.told.dropped && pair.told.code == 2)
-        && (pair.reader.held() == 8 && pair.most() == Some(1))
+        && (pair.reader.held() == 8 && matches!(pair.most(), Some(1)))
 }
 
 // These are read whole, in their order, and then none.
@@ -189,7 +190,9 @@ fn stops(pair: &mut Pair) -> bool {
     pair.stream(4, 0);
     let stopped = pair.reader.stop();
     pair.stream(40, 0);
-    stopped && pair.told.code == 1 && pair.send() == Err(SendRefusal::Held(Restraint::NotListening))
+    stopped
+        && pair.told.code == 1
+        && matches!(pair.send(), Err(SendRefusal::Held(Restraint::NotListening)))
 }
 
 // The sender closes properly, and what waits is read after the end. Nothing came in another way.
@@ -203,7 +206,10 @@ fn closes(pair: &mut Pair) -> bool {
             read = read.saturating_add(1);
         }
     }
-    closed && pair.told.ended == Some(1) && (0 < held && read == held) && pair.told.others == 0
+    closed
+        && matches!(pair.told.ended, Some(1))
+        && (0 < held && read == held)
+        && pair.told.others == 0
 }
 
 // The first of these that does not hold.

@@ -61,7 +61,7 @@ fn delivers_once(pair: &mut Pair) -> bool {
 
 // If the Reset that answers the client's Close is lost, the next Close finds no connection: code 3.
 fn has_ended(pair: &Pair) -> bool {
-    matches!(pair.client_ended, Some(1 | 3)) && pair.server_ended == Some(1)
+    matches!(pair.client_ended, Some(1 | 3)) && matches!(pair.server_ended, Some(1))
 }
 
 // TIMEWAIT ends after two lifetimes of a segment.
