@@ -33,7 +33,7 @@ pub record DueConfirm : Type 0 where
 
 -- a Confirm that the rows answer, as one that is due
 abbrev pub due_of : ConfirmOut → DueConfirm
-due_of out = record { left = out.left; number = out.feature; body = out.body }
+due_of out = record { left = out.left; number = out.feature; body = out.body.items }
 
 -- The result so far of reading: the rows; which features had an option by L and by R; how many Changes were met, up to 64; and the Confirms that
 -- are due, in order.

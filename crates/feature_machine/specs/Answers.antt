@@ -23,7 +23,7 @@ pub data ChangeAnswer : Type 0 where
 
 -- the answer of the call as plain data: the Confirm letter by letter, or why none goes out
 abbrev pub shown : Answer → ChangeAnswer
-shown (answer.Confirm out) = Confirming out.left out.feature out.body
+shown (answer.Confirm out) = Confirming out.left out.feature out.body.items
 shown answer.Ignored = Ignoring
 shown answer.Fatal = Failing
 

@@ -17,7 +17,7 @@ mod rows;
 mod stands;
 mod values;
 
-pub use crate::answers::{Answer, ConfirmBody, ConfirmOut, Opening, Settling};
+pub use crate::answers::{Answer, ConfirmOut, Opening, Settling};
 pub use crate::due::DueRows;
 pub use crate::laws::{
     both_ends_reconcile_alike, causes_of_resets, changes_move_no_stand, late_confirms_are_ignored,

@@ -15,7 +15,8 @@ ghost use Rattle.feature_machine.specs.declared.answers.Settling.TheVariants.{Fa
 use crate::due::DueRows;
 use crate::offers::{Offer, RowSetup};
 use crate::row::{Row, RowReply};
-use crate::{Answer, ConfirmBody, ConfirmOut, Held, Lists, Opening, Role2, Settling, Stand};
+use crate::{Answer, ConfirmOut, Held, Lists, Opening, Role2, Settling, Stand};
+use arrayvec::ArrayVec;
 use feature_lists::{Feature, Place, Wanted};
 use seq_circle::Seq48;
 use std::marker::Model;
@@ -242,14 +243,14 @@ impl Negotiation {
             return Answer::Confirm(ConfirmOut {
                 left: !left,
                 feature,
-                body: ConfirmBody::of(&[]),
+                body: ArrayVec::new(),
             });
         };
         match self.change(known, place_of(left), body, mandatory) {
             RowReply::Confirm(body) => Answer::Confirm(ConfirmOut {
                 left: !left,
                 feature,
-                body: ConfirmBody::of(body.as_slice()),
+                body,
             }),
             RowReply::Ignored => Answer::Ignored,
             RowReply::Fatal => Answer::Fatal,
