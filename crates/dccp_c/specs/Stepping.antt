@@ -39,7 +39,8 @@ abbrev coded : {Answer : Type 0} → (Answer → ℕ) → TimedStep Both Answer 
 coded code step = record { timed = step.timed; frame = step.frame; answer = code step.answer }
 
 -- A call of an end by its owner, and its code: a client asks for its service, data go out, a feature is wished for, the connection is closed in
--- order or given up, or a timer has run out (RFC 4340, sections 8.1.1, 8.1.5, 6.6.1 and 8.3). Data also go out early, with the Request.
+-- order or given up, or a timer has run out (RFC 4340, sections 8.1.1, 8.1.5, 6.6.1 and 8.3). Both kinds of data go out as soon as the phase
+-- lets them, in PARTOPEN and in OPEN (own).
 abbrev pub timed_acts : FlowCall → ℕ → TimedState Both → TimedStep Both ℕ
 timed_acts Opens now s = coded open_code (timed_opens kinds_control now s)
 timed_acts (Sends payload) now s = coded send_code (timed_sends kinds_control now s payload)
