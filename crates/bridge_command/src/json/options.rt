@@ -2,12 +2,12 @@
 ghost use Rattle.std.specs.Prelude.{◌≡◌, ◌≤◌, ◌++◌, length, IfOk, OnOk, option_map};
 ghost use Rattle.dccp_options.specs.Grammar.{options_of};
 ghost use Rattle.dccp_options.specs.Left.{item_of};
-ghost use Rattle.packet_show.specs.Names.{option_name};
 ghost use Rattle.bridge_command.specs.Members.{listed, members_seen};
 ghost use Rattle.bridge_command.specs.OptionObjects as spec;
 
 use crate::json::objects::{Items, Object};
 use dccp_options::{Opt, OptFault, kinds, options};
+use packet_show::option_name;
 use seq_circle::NoMemory;
 use std::alloc::Global;
 
@@ -18,33 +18,6 @@ const ACK_RATIO: u8 = 5;
 
 // How many bytes a Timestamp has.
 const TIMESTAMP_SIZE: usize = 4;
-
-// The first option type that belongs to a CCID (RFC 4340, section 10.3).
-const FIRST_OF_CCIDS: u8 = 128;
-
-// The name of an option, as `show` has it.
-fn option_name(kind: u8) -> &'static str
-    ensures { result.now ≡ option_name kind }
-{
-    match kind {
-        kinds::SLOW_RECEIVER => "slow-receiver",
-        kinds::CHANGE_L => "change-l",
-        kinds::CONFIRM_L => "confirm-l",
-        kinds::CHANGE_R => "change-r",
-        kinds::CONFIRM_R => "confirm-r",
-        kinds::INIT_COOKIE => "init-cookie",
-        kinds::NDP_COUNT => "ndp-count",
-        kinds::ACK_VECTOR_0 => "ack-vector-0",
-        kinds::ACK_VECTOR_1 => "ack-vector-1",
-        kinds::DATA_DROPPED => "data-dropped",
-        kinds::TIMESTAMP => "timestamp",
-        kinds::TIMESTAMP_ECHO => "timestamp-echo",
-        kinds::ELAPSED_TIME => "elapsed-time",
-        kinds::DATA_CHECKSUM => "data-checksum",
-        FIRST_OF_CCIDS..=255 => "ccid",
-        _ => "option",
-    }
-}
 
 // The number that bytes are, the most significant first; of more than eight, the last eight count.
 fn number_of(bytes: &[u8]) -> u64
