@@ -23,7 +23,7 @@ const ONE_TOO_MANY: usize = 4097;
 const MOST_BYTES: u64 = 16_777_216;
 
 /// What comes next in an input, with its bytes lent from the reader's block until the next line is asked for (own).
-#[derive(Clone, Copy, Debug, PartialEq, Eq)]
+#[derive(Clone, Copy)]
 pub enum LineRead<'a> {
     /// A line, without its newline.
     Whole(&'a [u8]),
@@ -35,14 +35,14 @@ pub enum LineRead<'a> {
 }
 
 /// Why no line could be read (own).
-#[derive(Clone, Copy, Debug, PartialEq, Eq)]
+#[derive(Clone, Copy)]
 pub enum LinesFault {
     /// The source failed.
     Read,
 }
 
 /// Why no further line comes (own).
-#[derive(Clone, Copy, Debug, PartialEq, Eq)]
+#[derive(Clone, Copy, PartialEq, Eq)]
 pub enum Stop {
     /// The next line has more than 4,096 bytes.
     TooLong,

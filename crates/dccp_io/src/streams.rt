@@ -7,7 +7,7 @@ ghost use Rattle.std.specs.Io.KnownBytes.{prepend_known, append_known};
 ghost use Rattle.dccp_io.specs.Counts.{Rose};
 
 /// A read or a write failed (own).
-#[derive(Clone, Copy, Debug, PartialEq, Eq)]
+#[derive(Clone, Copy, PartialEq, Eq)]
 pub struct Failed;
 
 /// Where bytes come from (own). Contracts see the bytes that a source has left, if these are known, and how often it

@@ -11,7 +11,7 @@ use std::alloc::Global;
 const BLOCK: usize = 4096;
 
 /// Why an input could not be read whole (own).
-#[derive(Clone, Copy, Debug, PartialEq, Eq)]
+#[derive(Clone, Copy)]
 pub enum InputFault {
     /// The source failed.
     Read,
