@@ -1,5 +1,5 @@
 -- What C gets from a call of an end (own; the steps are the end's).
-use Rattle.std.specs.Prelude.{◌≡◌, ℕ, Bool, true, false, List, [], ◌∷◌, Option, Some, None, unwrap_or, if◌then◌else◌}
+use Rattle.std.specs.Prelude.{◌≡◌, ℕ, Bool, true, false, List, [], Option, Some, None, unwrap_or}
 use Rattle.data_dropped.specs.declared.drops.DropEntry.{DropEntry}
 use Rattle.dccp_listener.specs.Chain.{FlowCall}
 use Rattle.dccp_server.specs.Due.{never}

@@ -69,7 +69,6 @@ pub struct Care {
 
 /// An end's wish for a feature when the connection starts.
 #[repr(C)]
-#[derive(Clone, Copy)]
 pub struct Wish {
     /// The values, best first.
     pub values: [u64; 8],
