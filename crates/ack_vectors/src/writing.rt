@@ -8,7 +8,7 @@ ghost use Rattle.ack_vectors.specs.declared.room.Vectors.TheVariants.{Two};
 ghost use Rattle.ack_vectors.specs.ByRuns.{bytes_by_runs};
 
 use crate::room::VectorBytes;
-use run_list::RunWalk;
+use run_list::Walk;
 use seq_circle::Seq48;
 
 // The states of an Ack Vector that are written (RFC 4340, section 11.4).
@@ -79,7 +79,7 @@ fn put_both(out: &mut VectorBytes, room: usize, missing: u64, received: u64) -> 
 pub(crate) fn put_runs(
     out: &mut VectorBytes,
     room: usize,
-    runs: RunWalk<'_>,
+    runs: Walk<'_>,
     floor: Seq48,
     left: u64,
 ) -> bool

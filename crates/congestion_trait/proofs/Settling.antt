@@ -6,7 +6,7 @@ use Rattle.std.proofs.lemmas.Option.{get_or_from_slice_get}
 use Rattle.congestion_trait.specs.declared.flight.FlightEntry.{FlightEntry}
 use Rattle.congestion_trait.specs.declared.flight.Standing.{Standing}
 use Rattle.congestion_trait.specs.declared.flight.Standing.TheVariants.{Out, Reported, Lost}
-use Rattle.congestion_trait.specs.declared.walk.Walk.{Walk}
+use Rattle.congestion_trait.specs.declared.walk.FlightWalk.{FlightWalk}
 use Rattle.dccp_options.specs.Vectors.{is_received, is_unmarked, is_marked}
 use Rattle.congestion_trait.specs.Flight.{States, pipe_of, reported_count, after_report, acked_count, is_congested, is_out, is_reported, is_past, is_newly_lost, is_newly_marked, is_newly_acked, entry_reported, lost_if, is_passed, with_losses}
 use Rattle.congestion_trait.specs.Walk.{standing_after, one_if, IsAlong}
@@ -45,7 +45,7 @@ lost_unreceived received passed x =
     ]
 
 -- what one entry adds to a walk
-pub record IsStep (state mark : Option ℕ) (x : FlightEntry) (walk next : Walk) (standing : Standing) : Type 0 where
+pub record IsStep (state mark : Option ℕ) (x : FlightEntry) (walk next : FlightWalk) (standing : Standing) : Type 0 where
   pub stands : standing ≡ standing_after state (leb 3 walk.reported) x.standing
   pub acked : next.acked ≡ walk.acked + one_if (not (is_reported x.standing) && is_unmarked state)
   pub congested : next.congested ≡ (is_past mark x.number
@@ -57,14 +57,14 @@ pub record IsStep (state mark : Option ℕ) (x : FlightEntry) (walk next : Walk)
   pub seen : next.seen ≡ walk.seen + one_if (is_out x.standing)
 
 -- a walk over these entries
-pub record IsWalk (told : States) (mark : Option ℕ) (later : List FlightEntry) (walk : Walk) : Type 0 where
+pub record IsWalk (told : States) (mark : Option ℕ) (later : List FlightEntry) (walk : FlightWalk) : Type 0 where
   pub acked : walk.acked ≡ acked_count told later
   pub congested : walk.congested ≡ is_congested told mark later
   pub reported : walk.reported ≡ reported_count (map (entry_reported told) later)
   pub out : walk.out ≡ pipe_of (after_report told later)
   pub seen : walk.seen ≡ pipe_of later
 
-module _ (told : States) (mark : Option ℕ) (later : List FlightEntry) (x : FlightEntry) (walk next : Walk) (standing : Standing)
+module _ (told : States) (mark : Option ℕ) (later : List FlightEntry) (x : FlightEntry) (walk next : FlightWalk) (standing : Standing)
     (so_far : IsWalk told mark later walk) (step : IsStep (told x.number) mark x walk next standing) where
   entry_settled : lost_if (is_passed (map (entry_reported told) later)) (entry_reported told x) ≡ record x { standing = standing }
   entry_settled =
@@ -111,7 +111,7 @@ module _ (told : States) (mark : Option ℕ) (later : List FlightEntry) (x : Fli
   walk_more = record { acked = acked_more; congested = congested_more; reported = reported_more; out = out_more; seen = seen_more }
 
 -- what is at the place below the walk, which it did not change
-module _ (told : States) (mark : Option ℕ) (old now : List FlightEntry) (n i : ℕ) (x : FlightEntry) (walk : Walk)
+module _ (told : States) (mark : Option ℕ) (old now : List FlightEntry) (n i : ℕ) (x : FlightEntry) (walk : FlightWalk)
     (one : n ≡ i + 1) (within : n ≤ length old) (along : IsAlong told mark old n now walk) (read : slice_get now i ≡ Some x) where
   read_old : get_or old i x ≡ x
   read_old =
@@ -127,7 +127,7 @@ module _ (told : States) (mark : Option ℕ) (old now : List FlightEntry) (n i :
   front_cut = ap (λ k. take k old) one ∙ take_more old i x (omega arith) ∙ ap (λ e. take i old ++ e ∷ []) read_old
 
 -- one entry further
-pub turn : (told : States) (mark state : Option ℕ) (old now : List FlightEntry) (n i : ℕ) (x : FlightEntry) (walk next : Walk) (standing : Standing)
+pub turn : (told : States) (mark state : Option ℕ) (old now : List FlightEntry) (n i : ℕ) (x : FlightEntry) (walk next : FlightWalk) (standing : Standing)
     → n ≡ i + 1 → n ≤ length old → IsAlong told mark old n now walk → slice_get now i ≡ Some x
     → state ≡ told x.number → IsStep state mark x walk next standing
     → IsAlong told mark old i (slice_set now i (record x { standing = standing })) next
@@ -161,7 +161,7 @@ pub length-after_report : (told : States) (entries : List FlightEntry) → lengt
 length-after_report told entries = length-with_losses (map (entry_reported told) entries) ∙ length-map entries (entry_reported told)
 
 -- while an entry is left, each count is below the length
-pub few_yet : (told : States) (mark : Option ℕ) (old now : List FlightEntry) (n : ℕ) (walk : Walk)
+pub few_yet : (told : States) (mark : Option ℕ) (old now : List FlightEntry) (n : ℕ) (walk : FlightWalk)
     → 0 < n → n ≤ length old → length old ≤ 2048 → IsAlong told mark old n now walk
     → (walk.acked < 2048) × (walk.reported < 2048) × (walk.out < 2048) × (walk.seen < 2048)
 few_yet told mark old now n walk some within few along =

@@ -48,7 +48,7 @@ pub struct Counts {
 
 // The result of the entries so far; `seen` of them were Out before, and those from `heard` on are still.
 #[derive(Clone, Copy)]
-pub struct Walk {
+pub struct FlightWalk {
     pub acked: u32,
     pub congested: bool,
     pub reported: u32,
@@ -103,7 +103,7 @@ fn set_standing(entries: &mut HeapCircularBuffer<FlightEntry>, index: usize, sta
     }
 }
 
-impl Walk {
+impl FlightWalk {
     // Counts one entry, and returns its state after the report.
     fn step(&mut self, entry: &FlightEntry, state: Option<u8>, mark: &Option<Seq48>) -> Standing
         requires { (self.old.acked < 2048) × (self.old.reported < 2048) × (self.old.out < 2048) × (self.old.seen < 2048) }
@@ -172,7 +172,7 @@ pub fn settle(
     counts: &Counts,
     report: &AckReport<'_>,
     mark: &Option<Seq48>,
-) -> Walk
+) -> FlightWalk
     requires few { length entries.old.items ≤ 2048 }
     requires kept { FlightInvariant entries.old.items entries.old.capacity counts.now }
     ensures entries { entries.new ≡ buffer (after_report (state_at report.now.ack report.now.bytes) entries.old.items) entries.old.capacity }
@@ -185,7 +185,7 @@ pub fn settle(
     let mut cursor = Cursor::new(report);
     let heard = unheard_from(entries, counts, report, &cursor);
     let unheard = (entries.len() - heard) as u32;
-    let mut walk = Walk {
+    let mut walk = FlightWalk {
         acked: 0,
         congested: false,
         reported: 0,

@@ -24,4 +24,4 @@ pub use crate::laws::{
 pub use crate::list::RunList;
 pub use crate::plain::PlainRuns;
 pub use crate::runs::{RunCall, Runs, replay_runs};
-pub use crate::walking::{RunWalk, Stretch};
+pub use crate::walking::{Stretch, Walk};

@@ -8,7 +8,7 @@ ghost use Rattle.run_list.specs.Stretches.{stretches};
 use crate::answers::Marked;
 use crate::hints::Hints;
 use crate::linked::{NodeList, all_free, clear, cut, put};
-use crate::walking::RunWalk;
+use crate::walking::Walk;
 use seq_circle::{NoMemory, Seq48};
 use std::alloc::Global;
 use std::marker::Model;
@@ -117,9 +117,9 @@ impl RunList {
     }
 
     /// The set's maximal runs of successive numbers, from the newest down.
-    pub fn walk(&self) -> RunWalk<'_>
+    pub fn walk(&self) -> Walk<'_>
         ensures { result ≡ stretches self.now.numbers }
     {
-        RunWalk::over(&self.runs.nodes, self.runs.first)
+        Walk::over(&self.runs.nodes, self.runs.first)
     }
 }

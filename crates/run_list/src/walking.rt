@@ -14,12 +14,12 @@ pub struct Stretch {
 
 /// The runs of a set from the newest downwards, as `RunList::walk` gives them. Contracts see those that are left.
 #[derive(Drop)]
-pub struct RunWalk<'a> {
+pub struct Walk<'a> {
     nodes: &'a [Node],
     at: u16,
 }
 
-impl<'a> Model for RunWalk<'a> {
+impl<'a> Model for Walk<'a> {
     ghost use Rattle.std.specs.Prelude.{List};
     ghost use Rattle.run_list.specs.declared.walking.Stretch.{Stretch};
     ghost use Rattle.run_list.specs.Linked.{IsChained, runs_from};
@@ -31,20 +31,20 @@ impl<'a> Model for RunWalk<'a> {
     ghost invariant = { λ w. IsChained w.nodes.now w.at };
 }
 
-impl<'a> RunWalk<'a> {
+impl<'a> Walk<'a> {
     ghost use Rattle.std.specs.Prelude.{◌≡◌};
     ghost use Rattle.run_list.specs.Linked.{IsChained, runs_from};
 
     // The walk over the runs from a node on.
-    pub(crate) fn over(nodes: &'a [Node], at: u16) -> RunWalk<'a>
+    pub(crate) fn over(nodes: &'a [Node], at: u16) -> Walk<'a>
         requires { IsChained nodes.now at }
         ensures { result ≡ runs_from nodes.now at }
     {
-        RunWalk { nodes, at }
+        Walk { nodes, at }
     }
 }
 
-impl<'a> Iterator for RunWalk<'a> {
+impl<'a> Iterator for Walk<'a> {
     ghost use Rattle.std.specs.Iterator.{YieldsFirst, item_count};
 
     type Item = Stretch;

@@ -3,7 +3,7 @@ use Rattle.run_list.specs.declared.walking.Stretch.{Stretch}
 use Rattle.run_list.specs.Linked.{node_at}
 use Rattle.run_list.proofs.Paths.{read_at}
 use Rattle.run_list.proofs.Links.{chain_step, chain_stop, chain_fits}
-use Rattle.run_list.proofs.walking.RunWalkIterator.next.Goals as goal
+use Rattle.run_list.proofs.walking.WalkIterator.next.Goals as goal
 
 pub returns-then-self-eq-NONE-clause-steps : goal.returns-then-self-eq-NONE-clause-steps
 returns-then-self-eq-NONE-clause-steps c =
