@@ -2,15 +2,18 @@
 use Rattle.std.specs.Prelude.{◌≡◌, ℕ, Bool, true, false, List, Option, Some, String}
 use Rattle.std.specs.declared.alloc.Global.{Global}
 use Rattle.dccp_command.specs.CampaignText.{campaign_text}
-use Rattle.tool_jobs.specs.Transcript.{transcript, is_refused, accepted_bytes}
+use Rattle.tool_jobs.specs.Transcript.{SafeThroughout, transcript, is_refused, accepted_bytes}
 use Rattle.tool_jobs.specs.Bare.{replay_text, replay_refused, replay_accepted}
 use Rattle.tool_jobs.specs.Buffered.{buffered_text, buffered_refused, buffered_accepted}
 use Rattle.tool_jobs.specs.Listen.{listen_text, listen_refused, listen_accepted}
 use Rattle.packet_show.specs.CaptureText.{capture_text, is_faulty, records_end}
 use Rattle.tool_jobs.specs.Play.{ecn_text, ecn_refused, ecn_accepted}
 use Rattle.tool_forms.specs.Words.{form_of}
+use Rattle.tool_forms.specs.declared.campaign_words.Campaign.{Campaign}
 use Rattle.tool_forms.specs.declared.words.Form.{Form}
 use Rattle.tool_forms.specs.declared.words.Form.TheVariants as form
+use Rattle.tool_text.specs.Ends.{Answers, IsAnswered, StopsWithin}
+use Rattle.tool_text.specs.declared.output.status.JobEnd.{JobEnd}
 
 -- Only `campaign` reads no input.
 abbrev pub reads_input : Form → Bool
@@ -61,3 +64,19 @@ OnRead form told Holds = reads_input form ≡ true → (bytes : List ℕ) → to
 -- For any form that the words name and that reads its input, something holds of the form and the input.
 abbrev pub OnInput : List (String Global) → Option (List ℕ) → (Form → List ℕ → Type 0) → Type 0
 OnInput words told Holds = (form : Form) → form_of words ≡ Some form → OnRead form told (Holds form)
+
+-- What a form keeps of all that happens to the two ends of `run`: each event took place in a safe world and left a safe one.
+abbrev pub KeepsSafe : Form → List ℕ → Type 0
+KeepsSafe form.Run bytes = SafeThroughout bytes
+KeepsSafe _ bytes = Unit {0}
+
+-- What a form that reads these bytes does: what it writes and how it ends, how far it has read if it refuses them, and what it keeps safe.
+pub record DoesForm (form : Form) (bytes : List ℕ) (result : JobEnd) (left before after : Option (List ℕ)) : Type 0 where
+  pub answers : Answers (form_text form bytes) (is_form_refused form bytes) result left before after
+  pub past : StopsWithin (form_reads_past form) (form_accepted form bytes) bytes result left
+  pub safe : IsAnswered result → KeepsSafe form bytes
+
+-- One thing holds of a campaign, and another of each form that reads its input.
+abbrev pub OnForm : Form → (Campaign → Type 0) → Type 0 → Type 0
+OnForm (form.Campaign campaign) OfCampaign OfReader = OfCampaign campaign
+OnForm _ OfCampaign OfReader = OfReader

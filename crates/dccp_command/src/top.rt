@@ -3,7 +3,7 @@ ghost use Rattle.std.specs.Prelude.{◌≡◌, ◌⊎◌, ℕ, List, Some, None,
 ghost use Rattle.dccp_io.specs.Counts.{Rose};
 ghost use Rattle.tool_jobs.specs.Transcript.{SafeThroughout};
 ghost use Rattle.dccp_command.specs.CampaignText.{AnswersUnread, campaign_text};
-ghost use Rattle.dccp_command.specs.Forms.{OnInput, OnRead, form_accepted, form_reads_past, form_text, is_form_refused, reads_input};
+ghost use Rattle.dccp_command.specs.Forms.{DoesForm, OnForm, OnInput, form_accepted, form_reads_past, form_text, is_form_refused, reads_input};
 ghost use Rattle.tool_forms.specs.Words.{IsFormWithinBounds, OnRun, form_of, has_settings, usage};
 ghost use Rattle.tool_text.specs.Ends.{SinkFails, IsWritten, IsAnswered, OnJobEnd, Answers, StopsWithin, EndsForCause};
 
@@ -81,14 +81,9 @@ fn perform<R: Threads + Sync, G: Gate + Sync, S: Source, K: Sink>(
     output: &mut K,
 ) -> JobEnd
     requires { IsFormWithinBounds form }
-    ensures answers { OnRead form (S.left input.old) (λ bytes.
-        Answers (form_text form bytes) (is_form_refused form bytes) result (S.left input.new) (K.taken output.old) (K.taken output.new)) }
-    ensures past { OnRead form (S.left input.old) (λ bytes.
-        StopsWithin (form_reads_past form) (form_accepted form bytes) bytes result (S.left input.new)) }
-    ensures safe { form ≡ Form.Run → (bytes : List ℕ) → S.left input.old ≡ Some bytes → IsAnswered result → SafeThroughout bytes }
-    ensures unread { reads_input form ≡ false → input.new ≡ input.old }
-    ensures totals { (campaign : Campaign) → form ≡ Form.Campaign campaign
-        → AnswersUnread (campaign_text campaign) result (K.taken output.old) (K.taken output.new) (SinkFails K.faults K.empty_takes output.old output.new) }
+    ensures does { OnForm form
+        (λ campaign. (input.new ≡ input.old) × AnswersUnread (campaign_text campaign) result (K.taken output.old) (K.taken output.new) (SinkFails K.faults K.empty_takes output.old output.new))
+        ((bytes : List ℕ) → S.left input.old ≡ Some bytes → DoesForm form bytes result (S.left input.new) (K.taken output.old) (K.taken output.new)) }
     ensures cause { EndsForCause result (Rose (S.faults input.old) (S.faults input.new)) (SinkFails K.faults K.empty_takes output.old output.new) }
 {
     match form {

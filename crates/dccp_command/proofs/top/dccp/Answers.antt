@@ -1,40 +1,70 @@
 -- The form that was found is the one that the words have.
-use Rattle.std.proofs.Common.{rules, ◌≡◌, ◌∙◌, ap, sym, Some}
+use Rattle.std.proofs.Common.{rules, ◌≡◌, ◌∙◌, ap, sym, subst, Some, true, false}
+use Rattle.std.proofs.lemmas.Bool.{false≢true}
 use Rattle.std.proofs.lemmas.Option.{same_Some}
 use Rattle.tool_forms.specs.Words.{form_of}
+use Rattle.tool_forms.specs.declared.campaign_words.Campaign.{Campaign}
+use Rattle.tool_forms.specs.declared.words.Form.{Form}
 use Rattle.tool_forms.specs.declared.words.Form.TheVariants as form
 use Rattle.tool_text.proofs.Ending.{on-job-end}
-use Rattle.dccp_command.specs.Forms.{reads_input}
+use Rattle.dccp_command.specs.Forms.{KeepsSafe, OnForm, reads_input}
 use Rattle.dccp_command.proofs.top.dccp.Goals as goal
 
+reads : (f : Form) (OfCampaign : Campaign → Type 0) (OfReader : Type 0) → reads_input f ≡ true → OnForm f OfCampaign OfReader → OfReader
+reads (form.Campaign campaign) OfCampaign OfReader is does = absurd (false≢true is)
+reads form.Run OfCampaign OfReader is does = does
+reads (form.Replay side plain) OfCampaign OfReader is does = does
+reads (form.Buffered side plain capacity) OfCampaign OfReader is does = does
+reads form.Show OfCampaign OfReader is does = does
+reads (form.Listen most) OfCampaign OfReader is does = does
+reads form.Ecn OfCampaign OfReader is does = does
+
+unread : (f : Form) (Unread : Type 0) (Counted : Campaign → Type 0) (OfReader : Type 0) → reads_input f ≡ false
+    → OnForm f (λ campaign. Unread × Counted campaign) OfReader → Unread
+unread (form.Campaign campaign) Unread Counted OfReader is does = does.0
+unread form.Run Unread Counted OfReader is does = absurd (false≢true (sym is))
+unread (form.Replay side plain) Unread Counted OfReader is does = absurd (false≢true (sym is))
+unread (form.Buffered side plain capacity) Unread Counted OfReader is does = absurd (false≢true (sym is))
+unread form.Show Unread Counted OfReader is does = absurd (false≢true (sym is))
+unread (form.Listen most) Unread Counted OfReader is does = absurd (false≢true (sym is))
+unread form.Ecn Unread Counted OfReader is does = absurd (false≢true (sym is))
+
+counts : (f : Form) (campaign : Campaign) (OfCampaign : Campaign → Type 0) (OfReader : Type 0) → f ≡ form.Campaign campaign → OnForm f OfCampaign OfReader
+    → OfCampaign campaign
+counts f campaign OfCampaign OfReader is does = subst (λ (g : Form). OnForm g OfCampaign OfReader) is does
+
 pub returns-in-Ok-Some-clause-answers : goal.returns-in-Ok-Some-clause-answers
-returns-in-Ok-Some-clause-answers g c = λ asked words reads bytes told.
+returns-in-Ok-Some-clause-answers g c = λ asked words is bytes told.
     let found : Some c.in-Ok-Some.form ≡ form_of c.args.words.now = search rules in
     let same = same_Some c.in-Ok-Some.form asked (found ∙ words) in
-    on-job-end c.perform.result c.status.result _ c.status.ensures.value (rw (sym same) (c.perform.ensures.answers (ap reads_input same ∙ reads) bytes told))
+    let does = reads c.in-Ok-Some.form _ _ (ap reads_input same ∙ is) c.perform.ensures.does bytes told in
+    on-job-end c.perform.result c.status.result _ c.status.ensures.value (rw (sym same) does.answers)
 
 pub returns-in-Ok-Some-clause-past : goal.returns-in-Ok-Some-clause-past
-returns-in-Ok-Some-clause-past g c = λ asked words reads bytes told.
+returns-in-Ok-Some-clause-past g c = λ asked words is bytes told.
     let found : Some c.in-Ok-Some.form ≡ form_of c.args.words.now = search rules in
     let same = same_Some c.in-Ok-Some.form asked (found ∙ words) in
-    on-job-end c.perform.result c.status.result _ c.status.ensures.value (rw (sym same) (c.perform.ensures.past (ap reads_input same ∙ reads) bytes told))
+    let does = reads c.in-Ok-Some.form _ _ (ap reads_input same ∙ is) c.perform.ensures.does bytes told in
+    on-job-end c.perform.result c.status.result _ c.status.ensures.value (rw (sym same) does.past)
 
 pub returns-in-Ok-Some-clause-safe : goal.returns-in-Ok-Some-clause-safe
 returns-in-Ok-Some-clause-safe g c = λ words bytes told.
     let found : Some c.in-Ok-Some.form ≡ form_of c.args.words.now = search rules in
+    let same = same_Some c.in-Ok-Some.form form.Run (found ∙ words) in
+    let does = reads c.in-Ok-Some.form _ _ (ap reads_input same) c.perform.ensures.does bytes told in
     on-job-end c.perform.result c.status.result _ c.status.ensures.value
-    (c.perform.ensures.safe (same_Some c.in-Ok-Some.form form.Run (found ∙ words)) bytes told)
+    (λ answered. subst (λ (f : Form). KeepsSafe f bytes) same (does.safe answered))
 
 pub returns-in-Ok-Some-clause-totals : goal.returns-in-Ok-Some-clause-totals
 returns-in-Ok-Some-clause-totals g c = λ campaign words.
     let found : Some c.in-Ok-Some.form ≡ form_of c.args.words.now = search rules in
-    on-job-end c.perform.result c.status.result _ c.status.ensures.value
-    (c.perform.ensures.totals campaign (same_Some c.in-Ok-Some.form (form.Campaign campaign) (found ∙ words)))
+    let same = same_Some c.in-Ok-Some.form (form.Campaign campaign) (found ∙ words) in
+    on-job-end c.perform.result c.status.result _ c.status.ensures.value (counts c.in-Ok-Some.form campaign _ _ same c.perform.ensures.does).1
 
 pub returns-in-Ok-Some-clause-form_unread : goal.returns-in-Ok-Some-clause-form_unread
-returns-in-Ok-Some-clause-form_unread g c = λ asked words unread.
+returns-in-Ok-Some-clause-form_unread g c = λ asked words is.
     let found : Some c.in-Ok-Some.form ≡ form_of c.args.words.now = search rules in
-    c.perform.ensures.unread (ap reads_input (same_Some c.in-Ok-Some.form asked (found ∙ words)) ∙ unread)
+    unread c.in-Ok-Some.form _ _ _ (ap reads_input (same_Some c.in-Ok-Some.form asked (found ∙ words)) ∙ is) c.perform.ensures.does
 
 pub returns-in-Ok-Some-clause-cause : goal.returns-in-Ok-Some-clause-cause
 returns-in-Ok-Some-clause-cause g c = λ _ _. on-job-end c.perform.result c.status.result _ c.status.ensures.value c.perform.ensures.cause
