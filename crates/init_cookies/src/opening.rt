@@ -82,18 +82,6 @@ impl FirstRequest {
         self.iss
     }
 
-    fn number(&self) -> Seq48
-        ensures { result ≡ self.now.number }
-    {
-        self.number
-    }
-
-    fn service(&self) -> u32
-        ensures { result ≡ self.now.service }
-    {
-        self.service
-    }
-
     fn options(&self) -> &[u8]
         ensures value { result.now ≡ self.now.options }
         ensures short { length result.now ≤ 220 }
@@ -127,9 +115,9 @@ fn request_header(route: &Route, opening: &FirstRequest) -> Header
         ccval: 0,
         cscov: 0,
         checksum: 0,
-        number: Number::Long(opening.number()),
+        number: Number::Long(opening.number),
         kind: Kind::Request {
-            service: opening.service(),
+            service: opening.service,
         },
     }
 }
