@@ -1,5 +1,5 @@
 -- The Ack Ratio: for how many data packets the peer of a sender sends one Ack (RFC 4341, section 6.1.2; own).
-use Rattle.std.specs.Prelude.{◌⊎◌, ℕ, ◌+◌, ◌-◌, ◌*◌, ◌/◌, ◌==◌, ◌≤◌, max, min, nat_lt, nat_le, Bool, true, ◌&&◌, ◌||◌, Option, Some, None, if◌then◌else◌}
+use Rattle.std.specs.Prelude.{◌⊎◌, ℕ, ◌+◌, ◌-◌, ◌*◌, ◌/◌, ◌≤◌, max, min, nat_lt, nat_le, Bool, true, ◌&&◌, ◌||◌, Option, Some, None, if◌then◌else◌}
 use Rattle.path_rules.specs.declared.ack_ratio.AckRatio.{AckRatio}
 use Rattle.path_rules.specs.declared.round_trip.RoundTrip.{RoundTrip}
 
@@ -25,9 +25,9 @@ aim_by_use window used width = max (min (max (shares used 32) (shares (4 * used)
 abbrev pub ack_ratio_aim : ℕ → ℕ → ℕ → ℕ
 ack_ratio_aim window used width = if nat_lt window 4 then 1 else aim_by_use window used width
 
--- it is lowered to 1, or if it is above half the window, or if it falls at least by half
+-- it is lowered if it is above half the window, or falls at least by half
 abbrev pub lowers_ratio : ℕ → ℕ → ℕ → Bool
-lowers_ratio held aim window = nat_lt aim held && (aim == 1 || (nat_lt (half window) held || nat_le aim (held / 2)))
+lowers_ratio held aim window = nat_lt aim held && (nat_lt (half window) held || nat_le aim (held / 2))
 
 -- it was at least this long ago, or never
 abbrev pub has_waited : Option ℕ → ℕ → Bool

@@ -16,13 +16,13 @@ request_wait = record { first = 1000; most = 64000 }
 abbrev pub ack_wait : Wait
 ack_wait = record { first = 50; most = 20000 }
 
--- a timeout of at least 200 milliseconds, up to 64 seconds (own)
+-- a timeout, up to 64 seconds (own)
 abbrev pub negotiate_wait : Option RoundTrip → Wait
-negotiate_wait path = record { first = max (timeout path) 200; most = 64000 }
+negotiate_wait path = record { first = timeout path; most = 64000 }
 
--- a timeout of at least 200 milliseconds, and up to two seconds while a probe is out (own)
+-- a timeout, up to two seconds, while a probe is out (own)
 abbrev pub probing_wait : Option RoundTrip → Wait
-probing_wait path = record { first = min (max (timeout path) 200) 2000; most = 2000 }
+probing_wait path = record { first = min (timeout path) 2000; most = 2000 }
 
 -- a timeout, up to 64 seconds (RFC 6298, section 5.5)
 abbrev pub rto_wait : Option RoundTrip → Wait

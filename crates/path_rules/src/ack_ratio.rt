@@ -59,7 +59,7 @@ pub fn ack_ratio_aim(window: u32, used: u32, width: u64) -> u64
 fn lowers(held: u64, aim: u64, window: u32) -> bool
     ensures { result ≡ lowers_ratio held aim window }
 {
-    aim < held && (aim == 1 || half(window) < held || aim <= held / 2)
+    aim < held && (half(window) < held || aim <= held / 2)
 }
 
 // Whether the ratio is raised, if it was last asked for this long ago.
@@ -73,8 +73,8 @@ fn raises(held: u64, aim: u64, waited: Option<u64>, period: u64) -> bool
 }
 
 /// Whether a sender asks for the Ack Ratio that it wants (own; RFC 4341, section 6.1.2, says that it is doubled when
-/// Acks are lost). It lowers the ratio at once if 1 is wanted, or if the present ratio is above half the window or at
-/// least twice what is wanted. It raises the ratio from 1 five seconds after it last asked; otherwise it raises it at
+/// Acks are lost). It lowers the ratio at once if the present one is above half the window or at least twice what is
+/// wanted. It raises the ratio from 1 five seconds after it last asked; otherwise it raises it at
 /// least to twice its value, once a period.
 pub fn wants_ack_ratio(ratio: &AckRatio, aim: u64, window: u32, period: u64, now: u64) -> bool
     ensures { result ≡ wants_ack_ratio ratio.now aim window period now }

@@ -44,13 +44,13 @@ pub fn ack_wait() -> Wait
     }
 }
 
-/// Changes that no Confirm has answered: after a timeout, at least 200 milliseconds, up to 64 seconds (own; RFC 4340,
-/// section 6.6.3, leaves it open).
+/// Changes that no Confirm has answered: after a timeout, up to 64 seconds (own; RFC 4340, section 6.6.3, leaves it
+/// open).
 pub fn negotiate_wait(path: Option<RoundTrip>) -> Wait
     ensures { result ≡ negotiate_wait path }
 {
     Wait {
-        first: timeout(path).max(200),
+        first: timeout(path),
         most: 64_000,
     }
 }
@@ -71,7 +71,7 @@ pub fn probing_wait(path: Option<RoundTrip>) -> Wait
     ensures { result ≡ probing_wait path }
 {
     Wait {
-        first: timeout(path).max(200).min(2_000),
+        first: timeout(path).min(2_000),
         most: 2_000,
     }
 }
