@@ -5,7 +5,7 @@ ghost use Rattle.tool_jobs.specs.SeenText.{check_name, ecn_ending, ecn_event_lin
 use dccp_ecn::{Check, EcnSeen, EcnWorld};
 use run_list::Marked;
 use seq_circle::NoMemory;
-use tool_text::{put, put_counted, put_hex_or_dash, put_number};
+use tool_text::{put, put_counted, put_hex_or_dash, put_named, put_number};
 
 fn marked_name(answer: Marked) -> &'static [u8]
     ensures { result.now ≡ marked_name answer }
@@ -36,7 +36,8 @@ fn put_vector(text: &mut Vec<u8>, world: &EcnWorld, index: u64) -> Result<(), No
     };
     put_counted(text, b"vector ", u64::from(kind))?;
     put(text, b" ")?;
-    put_hex_or_dash(text, bytes)
+    put_hex_or_dash(text, bytes)?;
+    Ok(())
 }
 
 // Puts the result of an event that left this world.
@@ -64,11 +65,11 @@ pub(crate) fn put_event_line(
     ensures { OnOk result (text.new.items ≡ text.old.items ++ ecn_event_line number line.now world.now seen) }
 {
     put_number(text, number)?;
-    put(text, b" ")?;
-    put(text, line)?;
+    put_named(text, b" ", line)?;
     put(text, b": ")?;
     put_seen(text, world, seen)?;
-    put(text, b"\n")
+    put(text, b"\n")?;
+    Ok(())
 }
 
 /// Puts the last line (own): how many packets were sent, and how many reports kept. NoMemory means that the text could
@@ -78,5 +79,6 @@ pub(crate) fn put_ending(text: &mut Vec<u8>, world: &EcnWorld) -> Result<(), NoM
 {
     put_counted(text, b"sent ", world.packet_count())?;
     put_counted(text, b" reports ", world.report_count())?;
-    put(text, b"\n")
+    put(text, b"\n")?;
+    Ok(())
 }

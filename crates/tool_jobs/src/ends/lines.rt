@@ -9,7 +9,7 @@ use dccp_endpoint::{Endpoint, Held, Phase, Stand};
 use feature_lists::{Feature, Place};
 use schedule_text::side_name;
 use seq_circle::NoMemory;
-use tool_text::{put, put_counted, put_hex, put_named, put_number};
+use tool_text::{put, put_counted, put_hex, put_named};
 use world_events::Side;
 
 // How the line of a frame that this side sent begins, up to the frame's index.
@@ -62,13 +62,15 @@ pub(crate) fn put_frame_line(
     put_counted(text, sent_by(side), index)?;
     put(text, b" ")?;
     put_hex(text, bytes)?;
-    put(text, b"\n")
+    put(text, b"\n")?;
+    Ok(())
 }
 
-fn put_held(text: &mut Vec<u8>, held: Held) -> Result<(), NoMemory>
-    ensures { OnOk result (text.new.items ≡ text.old.items ++ held_text held) }
+// Puts a mark, and the value that an end has for a feature.
+fn put_held(text: &mut Vec<u8>, mark: &[u8], held: Held) -> Result<(), NoMemory>
+    ensures { OnOk result (text.new.items ≡ text.old.items ++ (mark.now ++ held_text held)) }
 {
-    put_number(text, held.value)?;
+    put_counted(text, mark, held.value)?;
     put(text, stand_mark(held.stand))
 }
 
@@ -77,10 +79,9 @@ fn put_row(text: &mut Vec<u8>, end: &Endpoint<Kinds>, feature: Feature) -> Resul
     ensures { OnOk result (text.new.items ≡ text.old.items ++ row_text end.now.state feature) }
 {
     put_counted(text, b" ", u64::from(feature.number()))?;
-    put(text, b"=")?;
-    put_held(text, end.held(feature, Place::Here))?;
-    put(text, b"/")?;
-    put_held(text, end.held(feature, Place::There))
+    put_held(text, b"=", end.held(feature, Place::Here))?;
+    put_held(text, b"/", end.held(feature, Place::There))?;
+    Ok(())
 }
 
 /// Puts the values of an end's features as its line has them (own): for each, after a space, its number and its values
@@ -121,5 +122,6 @@ pub(crate) fn put_end_line(
     put_end_name(text, side, end)?;
     put_end_counts(text, end)?;
     put_end_rows(text, end)?;
-    put(text, b"\n")
+    put(text, b"\n")?;
+    Ok(())
 }

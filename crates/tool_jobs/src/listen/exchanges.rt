@@ -86,7 +86,8 @@ fn arrive(
     };
     put_whom(text, number, peer)?;
     put_heard(text, bytes, heard)?;
-    put_frame(text, peer, &out)
+    put_frame(text, peer, &out)?;
+    Ok(())
 }
 
 // Calls the peer's end, and puts the lines for that.
@@ -104,7 +105,8 @@ fn call(
     let answer = ask(listener, peer, act, &mut out);
     put_whom(text, number, peer)?;
     put_answer(text, answer)?;
-    put_frame(text, peer, &out)
+    put_frame(text, peer, &out)?;
+    Ok(())
 }
 
 /// Does to the peer what the line with this number says, and puts the lines for that. NoMemory means that no memory was

@@ -15,7 +15,8 @@ fn put_flow(text: &mut Vec<u8>, peer: Peer, phase: Phase) -> Result<(), NoMemory
     put(text, b"flow ")?;
     put_peer(text, peer)?;
     put_named(text, b" ", phase_name(phase))?;
-    put(text, b"\n")
+    put(text, b"\n")?;
+    Ok(())
 }
 
 // Puts the line of the flow at this place, if there is one.
@@ -49,5 +50,6 @@ pub(crate) fn put_flows(text: &mut Vec<u8>, listener: &Listener) -> Result<(), N
 {
     put_counted(text, b"flows ", u64::from(listener.flows()))?;
     put(text, b"\n")?;
-    put_each_flow(text, listener)
+    put_each_flow(text, listener)?;
+    Ok(())
 }

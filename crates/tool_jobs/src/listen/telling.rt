@@ -20,7 +20,8 @@ pub(crate) fn put_whom(text: &mut Vec<u8>, number: u64, peer: Peer) -> Result<()
 {
     put_number(text, number)?;
     put(text, b" ")?;
-    put_peer(text, peer)
+    put_peer(text, peer)?;
+    Ok(())
 }
 
 // Puts the outcome of a datagram of these bytes at an end.
@@ -64,5 +65,6 @@ pub(crate) fn put_frame(text: &mut Vec<u8>, peer: Peer, out: &Outbox) -> Result<
     put_peer(text, peer)?;
     put(text, b" ")?;
     put_hex(text, sent.bytes)?;
-    put(text, b"\n")
+    put(text, b"\n")?;
+    Ok(())
 }

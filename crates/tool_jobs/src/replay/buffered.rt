@@ -14,7 +14,7 @@ use dccp_packets::Outbox;
 use schedule_text::print_result;
 use seq_circle::NoMemory;
 use std::alloc::Global;
-use tool_text::{is_text, put, put_hex_or_dash, put_number};
+use tool_text::{is_text, put, put_counted, put_hex_or_dash, put_number};
 use world_events::{Seen, Side};
 
 /// A new end of a side, with its offers or without, and an empty inbox for `capacity` packets.
@@ -103,16 +103,18 @@ fn put_item(text: &mut Vec<u8>, number: u64, data: &[u8]) -> Result<(), NoMemory
 {
     put_numbered(text, number, b": read ")?;
     put_hex_or_dash(text, data)?;
-    put(text, b"\n")
+    put(text, b"\n")?;
+    Ok(())
 }
 
 // Puts the line of data that were dropped for the reason of this code.
 fn put_dropped(text: &mut Vec<u8>, number: u64, code: u8) -> Result<(), NoMemory>
     ensures { OnOk result (text.new.items ≡ text.old.items ++ dropped_text number code) }
 {
-    put_numbered(text, number, b": took dropped ")?;
-    put_number(text, u64::from(code))?;
-    put(text, b"\n")
+    put_number(text, number)?;
+    put_counted(text, b": took dropped ", u64::from(code))?;
+    put(text, b"\n")?;
+    Ok(())
 }
 
 // Puts the line of what became of a frame.
