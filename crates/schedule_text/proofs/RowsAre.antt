@@ -30,11 +30,11 @@ use Rattle.tool_text.proofs.RowLaws.{end-is, both-is, as-is, choice-is, checked-
 use Rattle.schedule_text.specs.declared.line.Line.TheVariants as line
 use Rattle.schedule_text.specs.declared.names.Form.{Form}
 use Rattle.schedule_text.specs.declared.names.Form.TheVariants as form
-use Rattle.schedule_text.specs.Names.{form_name, side_name, place_name, timer_name}
+use Rattle.schedule_text.specs.Names.{all_forms, all_timers, form_name, side_name, place_name, timer_name}
 use Rattle.schedule_text.specs.Numbers.{sequence_numbers, indices, number_and_rest, numbers_read, at_most_nine, values_of, feature_of, version_numbered, schedule_version}
 use Rattle.schedule_text.specs.Printing.{values_text, frame_name}
 use Rattle.schedule_text.specs.Range.{AreValues, IsVersion}
-use Rattle.schedule_text.specs.Kinds.{all_forms, form_kind, side_kind, place_kind, all_timers, timer_kind, sequence_kind, feature_kind, version_kind, values_kind, from_sender, frame_sent_by, frame_named, name_flaw, frame_kind}
+use Rattle.schedule_text.specs.Kinds.{form_kind, side_kind, place_kind, timer_kind, sequence_kind, feature_kind, version_kind, values_kind, from_sender, frame_sent_by, frame_named, name_flaw, frame_kind}
 use Rattle.schedule_text.specs.Reading.{set_cause, offer_cause, rows, line_row}
 
 -- Names

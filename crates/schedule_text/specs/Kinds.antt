@@ -7,23 +7,15 @@ use Rattle.feature_lists.specs.declared.features.Place.TheVariants as place
 use Rattle.world_events.specs.declared.event.Side.{Side}
 use Rattle.world_events.specs.declared.event.Side.TheVariants.{Client, Server}
 use Rattle.dccp_states.specs.declared.calls.Timer.{Timer}
-use Rattle.dccp_states.specs.declared.calls.Timer.TheVariants as timer
 use Rattle.tool_text.specs.Numbers.{number_below}
 use Rattle.tool_text.specs.declared.words.faults.LineWhy.TheVariants as why
 use Rattle.tool_text.specs.declared.words.kinds.Flaw.{Flaw}
 use Rattle.tool_text.specs.Kinds.{KindOfWords, flaw_after, found_or, flaw_unless, found_kind, number_kind, name_kind}
 use Rattle.schedule_text.specs.declared.names.Form.{Form}
-use Rattle.schedule_text.specs.declared.names.Form.TheVariants as form
-use Rattle.schedule_text.specs.Names.{form_name, side_name, place_name, timer_name}
+use Rattle.schedule_text.specs.Names.{all_forms, all_timers, form_name, side_name, place_name, timer_name}
 use Rattle.schedule_text.specs.Numbers.{sequence_numbers, indices, values_of, feature_of, schedule_version}
 use Rattle.schedule_text.specs.Printing.{frame_name, values_text}
 use Rattle.schedule_text.specs.Range.{AreValues, IsVersion}
-
--- the first words of lines
-abbrev pub all_forms : List Form
-all_forms =
-    form.Version ∷ form.Plain ∷ form.Iss ∷ form.Set ∷ form.Offer ∷ form.Open ∷ form.Deliver ∷ form.Send ∷ form.Prefer ∷ form.Timer
-    ∷ form.Close ∷ form.Abort ∷ []
 
 -- a first word, which decides what the line is
 abbrev pub form_kind : KindOfWords Form
@@ -36,10 +28,6 @@ side_kind = name_kind side_name (Client ∷ Server ∷ [])
 -- a word for where a feature is located
 abbrev pub place_kind : KindOfWords Place
 place_kind = name_kind place_name (place.Here ∷ place.There ∷ [])
-
--- all timers of an end
-abbrev pub all_timers : List Timer
-all_timers = timer.Request ∷ timer.Ack ∷ timer.Negotiate ∷ timer.Rto ∷ timer.Close ∷ timer.TimeWait ∷ []
 
 -- a word for a timer
 abbrev pub timer_kind : KindOfWords Timer

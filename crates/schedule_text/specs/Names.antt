@@ -1,12 +1,12 @@
 -- The words of the tool's lines (own).
-use Rattle.std.specs.Prelude.{ℕ, if◌then◌else◌, List, codes, Option, Some, None}
-use Rattle.std.specs.Str.{bytes_eq}
+use Rattle.std.specs.Prelude.{ℕ, List, [], ◌∷◌, codes, Option}
 use Rattle.feature_lists.specs.declared.features.Place.{Place}
 use Rattle.feature_lists.specs.declared.features.Place.TheVariants as place
 use Rattle.world_events.specs.declared.event.Side.{Side}
 use Rattle.world_events.specs.declared.event.Side.TheVariants as side
 use Rattle.dccp_states.specs.declared.calls.Timer.{Timer}
 use Rattle.dccp_states.specs.declared.calls.Timer.TheVariants as timer
+use Rattle.tool_text.specs.Kinds.{named_in}
 use Rattle.schedule_text.specs.declared.names.Form.{Form}
 use Rattle.schedule_text.specs.declared.names.Form.TheVariants as form
 
@@ -44,44 +44,28 @@ timer_name timer.Rto = codes "rto"
 timer_name timer.Close = codes "close"
 timer_name timer.TimeWait = codes "timewait"
 
+-- the first words of lines
+abbrev pub all_forms : List Form
+all_forms =
+    form.Version ∷ form.Plain ∷ form.Iss ∷ form.Set ∷ form.Offer ∷ form.Open ∷ form.Deliver ∷ form.Send ∷ form.Prefer ∷ form.Timer
+    ∷ form.Close ∷ form.Abort ∷ []
+
+-- all timers of an end
+abbrev pub all_timers : List Timer
+all_timers = timer.Request ∷ timer.Ack ∷ timer.Negotiate ∷ timer.Rto ∷ timer.Close ∷ timer.TimeWait ∷ []
+
 -- what a word names, if it names anything of its kind
 abbrev pub form_named : List ℕ → Option Form
-form_named word =
-    if bytes_eq word (form_name form.Version) then Some form.Version
-    else if bytes_eq word (form_name form.Plain) then Some form.Plain
-    else if bytes_eq word (form_name form.Iss) then Some form.Iss
-    else if bytes_eq word (form_name form.Set) then Some form.Set
-    else if bytes_eq word (form_name form.Offer) then Some form.Offer
-    else if bytes_eq word (form_name form.Open) then Some form.Open
-    else if bytes_eq word (form_name form.Deliver) then Some form.Deliver
-    else if bytes_eq word (form_name form.Send) then Some form.Send
-    else if bytes_eq word (form_name form.Prefer) then Some form.Prefer
-    else if bytes_eq word (form_name form.Timer) then Some form.Timer
-    else if bytes_eq word (form_name form.Close) then Some form.Close
-    else if bytes_eq word (form_name form.Abort) then Some form.Abort
-    else None
+form_named word = named_in form_name all_forms word
 
 -- one of two sides; a word in another case names none
 abbrev pub side_named : List ℕ → Option Side
-side_named word =
-    if bytes_eq word (side_name side.Client) then Some side.Client
-    else if bytes_eq word (side_name side.Server) then Some side.Server
-    else None
+side_named word = named_in side_name (side.Client ∷ side.Server ∷ []) word
 
 -- one of the two places that a feature can have
 abbrev pub place_named : List ℕ → Option Place
-place_named word =
-    if bytes_eq word (place_name place.Here) then Some place.Here
-    else if bytes_eq word (place_name place.There) then Some place.There
-    else None
+place_named word = named_in place_name (place.Here ∷ place.There ∷ []) word
 
 -- the timer with this name, if there is one
 abbrev pub timer_of : List ℕ → Option Timer
-timer_of word =
-    if bytes_eq word (timer_name timer.Request) then Some timer.Request
-    else if bytes_eq word (timer_name timer.Ack) then Some timer.Ack
-    else if bytes_eq word (timer_name timer.Negotiate) then Some timer.Negotiate
-    else if bytes_eq word (timer_name timer.Rto) then Some timer.Rto
-    else if bytes_eq word (timer_name timer.Close) then Some timer.Close
-    else if bytes_eq word (timer_name timer.TimeWait) then Some timer.TimeWait
-    else None
+timer_of word = named_in timer_name all_timers word

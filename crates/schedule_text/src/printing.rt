@@ -1,9 +1,9 @@
 //! Events and their results, printed.
 #![tactic(auto, using(tool_text::proofs::Keeping::keeps_itself, tool_text::proofs::Keeping::keeps_on))]
 
-ghost use Rattle.std.specs.Prelude.{◌≡◌, ◌++◌, ◌∷◌, decimal, flat_map, OnOk, OnErr};
+ghost use Rattle.std.specs.Prelude.{◌≡◌, ◌++◌, ◌∷◌, codes, decimal, flat_map, OnOk, OnErr};
 ghost use Rattle.schedule_text.specs.Names.{side_name, place_name, timer_name};
-ghost use Rattle.tool_text.specs.Text.{Keeps, SameText};
+ghost use Rattle.tool_text.specs.Text.{Keeps, SameText, hex_or_dash};
 ghost use Rattle.schedule_text.specs.Printing.{side_letter, values_text, event_text};
 ghost use Rattle.schedule_text.specs.Results as spec;
 
@@ -103,21 +103,12 @@ fn put_delivery(text: &mut Vec<u8>, from: Side, index: u64) -> Result<(), NoMemo
     put_number(text, index)
 }
 
-fn put_send(text: &mut Vec<u8>, side: Side, payload: &[u8]) -> Result<(), NoMemory>
-    ensures ok { OnOk result (text.new.items ≡ text.old.items ++ event_text (Event.Send side payload.now)) }
+// Puts a side and data after this word.
+fn put_sending(text: &mut Vec<u8>, word: &[u8], side: Side, payload: &[u8]) -> Result<(), NoMemory>
+    ensures ok { OnOk result (text.new.items ≡ text.old.items ++ (word.now ++ (side_name side ++ (codes " " ++ hex_or_dash payload.now)))) }
     ensures front { Keeps text.old.items text.new.items }
 {
-    put_named(text, b"send ", side_name(side))?;
-    put(text, b" ")?;
-    put_hex_or_dash(text, payload)
-}
-
-// Early data have no line in a schedule: this is for people to read.
-fn put_send_early(text: &mut Vec<u8>, side: Side, payload: &[u8]) -> Result<(), NoMemory>
-    ensures ok { OnOk result (text.new.items ≡ text.old.items ++ event_text (Event.SendEarly side payload.now)) }
-    ensures front { Keeps text.old.items text.new.items }
-{
-    put_named(text, b"early ", side_name(side))?;
+    put_named(text, word, side_name(side))?;
     put(text, b" ")?;
     put_hex_or_dash(text, payload)
 }
@@ -170,20 +161,6 @@ fn put_timer(text: &mut Vec<u8>, side: Side, timer: Timer) -> Result<(), NoMemor
     put_named(text, b" ", timer_name(timer))
 }
 
-fn put_close(text: &mut Vec<u8>, side: Side) -> Result<(), NoMemory>
-    ensures ok { OnOk result (text.new.items ≡ text.old.items ++ event_text (Event.Close side)) }
-    ensures front { Keeps text.old.items text.new.items }
-{
-    put_named(text, b"close ", side_name(side))
-}
-
-fn put_abort(text: &mut Vec<u8>, side: Side) -> Result<(), NoMemory>
-    ensures ok { OnOk result (text.new.items ≡ text.old.items ++ event_text (Event.Abort side)) }
-    ensures front { Keeps text.old.items text.new.items }
-{
-    put_named(text, b"abort ", side_name(side))
-}
-
 fn put_event(text: &mut Vec<u8>, event: &Event) -> Result<(), NoMemory>
     ensures ok { OnOk result (text.new.items ≡ text.old.items ++ event_text event.now) }
     ensures front { Keeps text.old.items text.new.items }
@@ -191,8 +168,11 @@ fn put_event(text: &mut Vec<u8>, event: &Event) -> Result<(), NoMemory>
     match event {
         Event::Open => put(text, b"open"),
         Event::Deliver { from, index } => put_delivery(text, *from, *index),
-        Event::Send { side, payload } => put_send(text, *side, payload.bytes()),
-        Event::SendEarly { side, payload } => put_send_early(text, *side, payload.bytes()),
+        Event::Send { side, payload } => put_sending(text, b"send ", *side, payload.bytes()),
+        // Early data have no line in a schedule: this is for people to read.
+        Event::SendEarly { side, payload } => {
+            put_sending(text, b"early ", *side, payload.bytes())
+        }
         Event::Prefer {
             side,
             feature,
@@ -200,8 +180,8 @@ fn put_event(text: &mut Vec<u8>, event: &Event) -> Result<(), NoMemory>
             values,
         } => put_preference(text, *side, *place, *feature, values.numbers()),
         Event::Timer { side, timer } => put_timer(text, *side, *timer),
-        Event::Close { side } => put_close(text, *side),
-        Event::Abort { side } => put_abort(text, *side),
+        Event::Close { side } => put_named(text, b"close ", side_name(*side)),
+        Event::Abort { side } => put_named(text, b"abort ", side_name(*side)),
     }
 }
 
