@@ -27,7 +27,8 @@ fn put_run(text: &mut Vec<u8>, report: &Report) -> Result<(), NoMemory>
     put_count(text, b"seeds ", report.seeds)?;
     put_count(text, b"events ", report.events)?;
     put_count(text, b"client_frames ", report.client_frames)?;
-    put_count(text, b"server_frames ", report.server_frames)
+    put_count(text, b"server_frames ", report.server_frames)?;
+    Ok(())
 }
 
 #[tactic(auto, unfolding(crate::specs::CampaignText::arrival_text))]
@@ -39,7 +40,8 @@ fn put_arrivals(text: &mut Vec<u8>, report: &Report) -> Result<(), NoMemory>
     put_count(text, b"dropped ", report.dropped)?;
     put_count(text, b"synced ", report.synced)?;
     put_count(text, b"was_reset ", report.was_reset)?;
-    put_count(text, b"sent_reset ", report.sent_reset)
+    put_count(text, b"sent_reset ", report.sent_reset)?;
+    Ok(())
 }
 
 // Puts all lines of a report, in the order in which `docs/TOOL.md` lists them.
@@ -50,7 +52,8 @@ fn put_report(text: &mut Vec<u8>, report: &Report) -> Result<(), NoMemory>
     put_run(text, report)?;
     put_arrivals(text, report)?;
     put_count(text, b"refused ", report.refused)?;
-    put_count(text, b"settled ", report.settled)
+    put_count(text, b"settled ", report.settled)?;
+    Ok(())
 }
 
 // Runs the seeds, and puts the counts over them.
