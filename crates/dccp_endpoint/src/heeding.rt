@@ -1,18 +1,19 @@
 //! What the options of a packet say to the rows of an end (RFC 4340, section 8.5, step 8).
-ghost use Rattle.std.specs.Prelude.{◌≡◌, ◌<◌, ◌≤◌, ◌++◌, ◌∷◌, [], ℕ, Option, None, Ok, true, false, length, map};
+ghost use Rattle.std.specs.Prelude.{◌≡◌, ◌<◌, ◌≤◌, ◌++◌, ◌∷◌, [], ℕ, Option, None, Ok, true, false, length};
 ghost use Rattle.dccp_options.specs.Grammar.{options_of};
 ghost use Rattle.dccp_options.specs.Left.{entry_of_option, item_of};
 ghost use Rattle.dccp_endpoint.specs.Receiving.{fault_if, reads_request};
-ghost use Rattle.dccp_endpoint.specs.Heeding.{ReadingState, counted, due_of, heeding_or, heeds, heeds_body, heeds_change, heeds_confirm, heeds_entry};
+ghost use Rattle.dccp_endpoint.specs.Heeding.{ReadingState, counted, heeding_or, heeds, heeds_body, heeds_change, heeds_confirm, heeds_entry};
 ghost use Rattle.dccp_endpoint.specs.Heeding.{heeds_feature, heeds_first, heeds_item, is_change, is_left, is_of_negotiation, met, misunderstood, place_in_used, unheeded};
 
 use crate::faults::{fault_of, mandatory_fault};
+use crate::speaking::DueConfirm;
 use crate::{Fault, Lists};
 use arrayvec::ArrayVec;
 use dccp_options::kinds::{CHANGE_L, CHANGE_R, CONFIRM_L, CONFIRM_R};
 use dccp_options::{Opt, OptFault, options};
 use dccp_packets::ResetCode;
-use feature_machine::{Answer, ConfirmOut, Negotiation, Role2, Settling};
+use feature_machine::{Answer, Negotiation, Role2, Settling};
 use seq_circle::Seq48;
 use std::marker::Model;
 
@@ -26,16 +27,16 @@ pub(crate) struct Reading {
     rows: Negotiation,
     changes: usize,
     used: [bool; 512],
-    confirms: ArrayVec<ConfirmOut, MOST_CHANGES>,
+    confirms: ArrayVec<DueConfirm, MOST_CHANGES>,
 }
 
 impl Model for Reading {
-    ghost use Rattle.std.specs.Prelude.{◌≤◌, length, map};
-    ghost use Rattle.dccp_endpoint.specs.Heeding.{ReadingState, due_of};
+    ghost use Rattle.std.specs.Prelude.{◌≤◌, length};
+    ghost use Rattle.dccp_endpoint.specs.Heeding.{ReadingState};
 
     ghost Value = { ReadingState };
 
-    ghost view = { λ r. record { rows = r.rows; used = r.used; changes = r.changes; confirms = map due_of r.confirms.items } };
+    ghost view = { λ r. record { rows = r.rows; used = r.used; changes = r.changes; confirms = r.confirms.items } };
 
     ghost invariant = { λ r. (length r.confirms.items ≤ r.changes) × (r.changes ≤ 64) };
 }
@@ -91,8 +92,8 @@ impl Reading {
     }
 
     /// The Confirms that are due.
-    pub(crate) fn confirms(&self) -> &[ConfirmOut]
-        ensures confirms { map due_of result.now ≡ self.now.confirms }
+    pub(crate) fn confirms(&self) -> &[DueConfirm]
+        ensures confirms { result.now ≡ self.now.confirms }
         ensures few { length result.now ≤ 64 }
     {
         self.confirms.as_slice()
@@ -117,10 +118,10 @@ impl Reading {
     }
 
     // A Change was met, and its Confirm is due after the others.
-    fn owe(&mut self, place: usize, confirm: ConfirmOut)
+    fn owe(&mut self, place: usize, confirm: DueConfirm)
         requires place { place < 512 }
         requires few { self.old.changes < 64 }
-        ensures { self.new ≡ met self.old place true self.old.rows (self.old.confirms ++ due_of confirm ∷ []) }
+        ensures { self.new ≡ met self.old place true self.old.rows (self.old.confirms ++ confirm ∷ []) }
     {
         self.used[place] = true;
         self.changes += 1;
@@ -140,7 +141,7 @@ impl Reading {
     {
         match self.rows.on_change(left, number, body, option.mandatory) {
             Answer::Confirm(out) => {
-                self.owe(place_in_used(left, number), out);
+                self.owe(place_in_used(left, number), DueConfirm::of(&out));
                 Ok(())
             }
             Answer::Ignored => {

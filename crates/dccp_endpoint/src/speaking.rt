@@ -3,14 +3,13 @@
 //! The lengths show that all that is due fits into a packet. A vector takes at most 510 bytes, and 18 Changes take 12
 //! each. There are at most 64 Confirms, of which only those for a known feature can take more than 3 bytes, at most one
 //! for each of the 18 rows: 354 bytes. If each were counted as 12, they would not fit together with a vector.
-ghost use Rattle.std.specs.Prelude.{◌≡◌, ◌+◌, ◌*◌, ◌<◌, ◌≤◌, ◌++◌, [], ◌∷◌, length, map, true, false, Some};
+ghost use Rattle.std.specs.Prelude.{◌≡◌, ◌+◌, ◌*◌, ◌<◌, ◌≤◌, ◌++◌, [], ◌∷◌, length, true, false, Some};
 ghost use Rattle.arrayvec.specs.ArrayVec.{array_vec_len};
 ghost use Rattle.dccp_options.specs.Written.{written};
 ghost use Rattle.feature_lists.specs.Wishes.{is_wish};
 ghost use Rattle.feature_machine.specs.Negotiating.{IsNegotiation, every_place, row_at};
 ghost use Rattle.feature_machine.specs.Turns.{turned};
 ghost use Rattle.feature_machine.specs.declared.stands.Stand.TheVariants.{Changing};
-ghost use Rattle.dccp_endpoint.specs.Heeding.{due_of};
 ghost use Rattle.dccp_endpoint.specs.Speaking.{AreChanging, AreDue, asking, change_item, change_items, change_type, confirm_item, confirm_items, confirm_type, is_confirmed, is_for, is_of_place, wish_bytes};
 ghost use Rattle.dccp_endpoint.specs.Turns.{offerings, sendings};
 
@@ -92,6 +91,45 @@ impl Keys {
     }
 }
 
+/// A Confirm that is due, in twelve bytes, since an end has room for 64. Contracts see its data as a list.
+#[derive(Default, Drop)]
+pub(crate) struct DueConfirm {
+    left: bool,
+    number: u8,
+    count: u8,
+    bytes: [u8; 9],
+}
+
+impl Model for DueConfirm {
+    ghost use Rattle.std.specs.Prelude.{◌≤◌, take};
+    ghost use Rattle.dccp_endpoint.specs.Heeding.{DueConfirm};
+
+    ghost Value = { DueConfirm };
+
+    ghost view = { λ c. record { left = c.left; number = c.number; body = take c.count c.bytes } };
+
+    ghost invariant = { λ c. c.count ≤ 9 };
+}
+
+impl DueConfirm {
+    ghost use Rattle.dccp_endpoint.specs.Heeding.{due_of};
+
+    /// A Confirm that the rows answer.
+    pub(crate) fn of(out: &ConfirmOut) -> DueConfirm
+        ensures { result ≡ due_of out.now }
+    {
+        let body = out.body.as_slice();
+        let mut bytes = [0; 9];
+        bytes[..body.len()].copy_from_slice(body);
+        DueConfirm {
+            left: out.left,
+            number: out.feature,
+            count: body.len() as u8,
+            bytes,
+        }
+    }
+}
+
 // Change L speaks of a feature here, Change R of one at the peer.
 fn change_type(place: Place) -> u8
     ensures { result ≡ change_type place }
@@ -116,15 +154,15 @@ fn is_of_place(left: bool, place: Place) -> bool
 }
 
 // A Confirm is for the row.
-fn is_for(feature: Feature, place: Place, confirm: &ConfirmOut) -> bool
-    ensures { result ≡ is_for (feature, place) (due_of confirm.now) }
+fn is_for(feature: Feature, place: Place, confirm: &DueConfirm) -> bool
+    ensures { result ≡ is_for (feature, place) confirm.now }
 {
-    confirm.feature == feature.number() && is_of_place(confirm.left, place)
+    confirm.number == feature.number() && is_of_place(confirm.left, place)
 }
 
 // One of the Confirms is for the row.
-fn is_confirmed(confirms: &[ConfirmOut], feature: Feature, place: Place) -> bool
-    ensures { result ≡ is_confirmed (map due_of confirms.now) (feature, place) }
+fn is_confirmed(confirms: &[DueConfirm], feature: Feature, place: Place) -> bool
+    ensures { result ≡ is_confirmed confirms.now (feature, place) }
 {
     for confirm in confirms {
         if is_for(feature, place, confirm) {
@@ -144,8 +182,8 @@ fn open_offer(rows: &mut Negotiation, feature: Feature, place: Place, confirmed:
 }
 
 /// Makes all offers that were not made yet; those of rows that have one of these Confirms are dropped.
-pub(crate) fn open_offers(rows: &mut Negotiation, confirms: &[ConfirmOut])
-    ensures { rows.new ≡ turned rows.old (offerings (is_confirmed (map due_of confirms.now)) every_place) }
+pub(crate) fn open_offers(rows: &mut Negotiation, confirms: &[DueConfirm])
+    ensures { rows.new ≡ turned rows.old (offerings (is_confirmed confirms.now) every_place) }
 {
     let places = every_place();
     for (feature, place) in &places {
@@ -155,9 +193,9 @@ pub(crate) fn open_offers(rows: &mut Negotiation, confirms: &[ConfirmOut])
 }
 
 /// The rows whose Change is due and that have none of these Confirms.
-pub(crate) fn asking(rows: &Negotiation, confirms: &[ConfirmOut]) -> Keys
+pub(crate) fn asking(rows: &Negotiation, confirms: &[DueConfirm]) -> Keys
     requires { IsNegotiation rows.now }
-    ensures keys { result ≡ asking rows.now (map due_of confirms.now) }
+    ensures keys { result ≡ asking rows.now confirms.now }
     ensures due { AreDue rows.now result }
 {
     let mut keys = Keys::none();
@@ -232,21 +270,21 @@ pub(crate) fn put_changes(area: &mut OptWriter, rows: &Negotiation, keys: &[(Fea
     }
 }
 
-fn put_confirm(area: &mut OptWriter, confirm: &ConfirmOut)
-    requires room { length area.old + length (written (confirm_item (due_of confirm.now) ∷ [])) ≤ 1008 }
-    ensures { area.new ≡ area.old ++ written (confirm_item (due_of confirm.now) ∷ []) }
+fn put_confirm(area: &mut OptWriter, confirm: &DueConfirm)
+    requires room { length area.old + length (written (confirm_item confirm.now ∷ [])) ≤ 1008 }
+    ensures { area.new ≡ area.old ++ written (confirm_item confirm.now ∷ []) }
 {
     let mut body = ArrayVec::<u8, 10>::new();
-    body.push(confirm.feature);
-    let _ = body.try_extend_from_slice(confirm.body.as_slice());
+    body.push(confirm.number);
+    let _ = body.try_extend_from_slice(&confirm.bytes[..usize::from(confirm.count)]);
     let _ = area.put(false, confirm_type(confirm.left), body.as_slice());
 }
 
 /// Writes Confirms.
-pub(crate) fn put_confirms(area: &mut OptWriter, confirms: &[ConfirmOut])
-    requires room { length area.old + length (written (confirm_items (map due_of confirms.now))) ≤ 1008 }
-    ensures bytes { area.new ≡ area.old ++ written (confirm_items (map due_of confirms.now)) }
-    ensures long { length area.new ≡ length area.old + length (written (confirm_items (map due_of confirms.now))) }
+pub(crate) fn put_confirms(area: &mut OptWriter, confirms: &[DueConfirm])
+    requires room { length area.old + length (written (confirm_items confirms.now)) ≤ 1008 }
+    ensures bytes { area.new ≡ area.old ++ written (confirm_items confirms.now) }
+    ensures long { length area.new ≡ length area.old + length (written (confirm_items confirms.now)) }
 {
     for confirm in confirms {
         put_confirm(area, confirm);

@@ -6,6 +6,7 @@ use super::handing::{hand_over, hand_over_report};
 use crate::faults::heeds_negotiation;
 use crate::heeding::{Reading, are_silent, heed};
 use crate::incoming::IncomingPacket;
+use crate::speaking::DueConfirm;
 use crate::strangers::{is_of_connection, without_detail};
 use crate::{Exit, Fault, Outcome, Why};
 use congestion_trait::Congestion;
@@ -13,20 +14,19 @@ use dccp_packets::{Header, Number, Outbox, Packet, PacketType, ResetCode, decode
 use dccp_states::{Entrance, Phase, after, gate, unexpected};
 use dccp_sum::check;
 use feature_lists::{Feature, Place};
-use feature_machine::ConfirmOut;
 use run_list::Marked;
 use seq_circle::{Seq48, extend};
 use validity_windows::Verdict;
 
 impl Connection {
-    ghost use Rattle.std.specs.Prelude.{◌≡◌, ◌≤◌, [], None, Ok, true, length, map};
+    ghost use Rattle.std.specs.Prelude.{◌≡◌, ◌≤◌, [], None, Ok, true, length};
     ghost use Rattle.dccp_states.specs.Entrance.{gate};
     ghost use Rattle.dccp_states.specs.Phases.{after};
     ghost use Rattle.dccp_states.specs.declared.phase.Phase.TheVariants as phase;
     ghost use Rattle.validity_windows.specs.Verdict.{verdict};
     ghost use Rattle.dccp_endpoint.specs.Controlled.{end_with, with_control};
     ghost use Rattle.dccp_endpoint.specs.End.{IsPhaseOf, IsProper};
-    ghost use Rattle.dccp_endpoint.specs.Heeding.{due_of, heeding_or, unheeded};
+    ghost use Rattle.dccp_endpoint.specs.Heeding.{heeding_or, unheeded};
     ghost use Rattle.dccp_endpoint.specs.Speaking.{HaveRoom};
     ghost use Rattle.dccp_endpoint.specs.Incoming.{is_newest, parts_of_packet};
     ghost use Rattle.dccp_packets.specs.Grammar.{decoded};
@@ -494,12 +494,12 @@ impl Connection {
     fn process(
         &mut self,
         packet: &IncomingPacket<'_>,
-        confirms: &[ConfirmOut],
+        confirms: &[DueConfirm],
         out: &mut Outbox,
     ) -> Outcome
         requires empty { out.old ≡ None }
-        requires room { HaveRoom (map due_of confirms.now) }
-        ensures { record { after = self.new; frame = out.new; calls = []; answer = result } ≡ processes self.old packet.now (map due_of confirms.now) }
+        requires room { HaveRoom confirms.now }
+        ensures { record { after = self.new; frame = out.new; calls = []; answer = result } ≡ processes self.old packet.now confirms.now }
     {
         let mark = self.mark(packet.number);
         self.look_up(packet);

@@ -6,13 +6,13 @@ ghost use Rattle.dccp_endpoint.specs.Receiving.{packet_fault};
 use super::Connection;
 use super::classes::{is_connected, is_open};
 use crate::incoming::IncomingPacket;
+use crate::speaking::DueConfirm;
 use crate::outgoing::{number_without_connection, put_reset};
 use crate::strangers::without_detail;
 use crate::{Exit, Fault, Outcome};
 use dccp_packets::{Kind, Number, Outbox, ResetCode};
 use dccp_states::{Phase, Reply};
 use feature_lists::{Feature, Place};
-use feature_machine::ConfirmOut;
 use seq_circle::Seq48;
 
 // Packet Error names the packet's type.
@@ -28,10 +28,9 @@ fn packet_fault(packet: &IncomingPacket<'_>) -> Fault
 }
 
 impl Connection {
-    ghost use Rattle.std.specs.Prelude.{◌≡◌, if◌then◌else◌, [], None, false, map};
+    ghost use Rattle.std.specs.Prelude.{◌≡◌, if◌then◌else◌, [], None, false};
     ghost use Rattle.dccp_packets.specs.Forms.{may_be_short};
     ghost use Rattle.dccp_packets.specs.Grammar.{packet_type};
-    ghost use Rattle.dccp_endpoint.specs.Heeding.{due_of};
     ghost use Rattle.dccp_endpoint.specs.Speaking.{HaveRoom, confirming};
     ghost use Rattle.dccp_endpoint.specs.Receiving.{needs_ack, acknowledges, responds, replies, resets, resets_without_connection, leaves};
     ghost use Rattle.dccp_endpoint.specs.Reporting.{is_enough};
@@ -42,14 +41,14 @@ impl Connection {
     pub(crate) fn reply(
         &mut self,
         packet: &IncomingPacket<'_>,
-        confirms: &[ConfirmOut],
+        confirms: &[DueConfirm],
         delivered: Option<(usize, usize)>,
         reply: Reply,
         out: &mut Outbox,
     ) -> Outcome
         requires empty { out.old ≡ None }
-        requires room { HaveRoom (map due_of confirms.now) }
-        ensures { record { after = self.new; frame = out.new; calls = []; answer = result } ≡ replies self.old packet.now (map due_of confirms.now) (Took delivered) reply }
+        requires room { HaveRoom confirms.now }
+        ensures { record { after = self.new; frame = out.new; calls = []; answer = result } ≡ replies self.old packet.now confirms.now (Took delivered) reply }
     {
         let ack = self.marks.gsr;
         match reply {
@@ -76,8 +75,8 @@ impl Connection {
 
     // Whether an Ack is needed if the table has no reply: in PARTOPEN and OPEN if Confirms are due, and in OPEN after
     // enough data packets.
-    fn needs_ack(&self, confirms: &[ConfirmOut]) -> bool
-        ensures { result ≡ needs_ack self.now.phase (map due_of confirms.now) self.now.rows self.now.unacked }
+    fn needs_ack(&self, confirms: &[DueConfirm]) -> bool
+        ensures { result ≡ needs_ack self.now.phase confirms.now self.now.rows self.now.unacked }
     {
         is_connected(self.phase)
             && (!confirms.is_empty() || (is_open(self.phase) && self.is_enough()))
@@ -86,15 +85,15 @@ impl Connection {
     // If the table has no reply, sends an Ack if one is needed.
     fn acknowledge_if_due(
         &mut self,
-        confirms: &[ConfirmOut],
+        confirms: &[DueConfirm],
         delivered: Option<(usize, usize)>,
         out: &mut Outbox,
     ) -> Outcome
         requires empty { out.old ≡ None }
-        requires room { HaveRoom (map due_of confirms.now) }
+        requires room { HaveRoom confirms.now }
         ensures { record { after = self.new; frame = out.new; calls = []; answer = result }
-            ≡ (if needs_ack self.old.phase (map due_of confirms.now) self.old.rows self.old.unacked
-            then acknowledges self.old (map due_of confirms.now) (Took delivered) else idle self.old (Took delivered)) }
+            ≡ (if needs_ack self.old.phase confirms.now self.old.rows self.old.unacked
+            then acknowledges self.old confirms.now (Took delivered) else idle self.old (Took delivered)) }
     {
         if self.needs_ack(confirms) {
             return self.acknowledge(confirms, delivered, out);
@@ -105,12 +104,12 @@ impl Connection {
     // An Ack with the Confirms that are due.
     fn acknowledge(
         &mut self,
-        confirms: &[ConfirmOut],
+        confirms: &[DueConfirm],
         delivered: Option<(usize, usize)>,
         out: &mut Outbox,
     ) -> Outcome
-        requires { HaveRoom (map due_of confirms.now) }
-        ensures { record { after = self.new; frame = out.new; calls = []; answer = result } ≡ acknowledges self.old (map due_of confirms.now) (Took delivered) }
+        requires { HaveRoom confirms.now }
+        ensures { record { after = self.new; frame = out.new; calls = []; answer = result } ≡ acknowledges self.old confirms.now (Took delivered) }
     {
         let ack = Number::Long(self.marks.gsr);
         self.send_ack_confirming(Kind::Ack { ack }, confirms, out);
@@ -121,12 +120,12 @@ impl Connection {
     // that ask.
     fn respond(
         &mut self,
-        confirms: &[ConfirmOut],
+        confirms: &[DueConfirm],
         delivered: Option<(usize, usize)>,
         out: &mut Outbox,
     ) -> Outcome
-        requires { HaveRoom (map due_of confirms.now) }
-        ensures { record { after = self.new; frame = out.new; calls = []; answer = result } ≡ responds self.old (map due_of confirms.now) (Took delivered) }
+        requires { HaveRoom confirms.now }
+        ensures { record { after = self.new; frame = out.new; calls = []; answer = result } ≡ responds self.old confirms.now (Took delivered) }
     {
         let ack = self.marks.gsr;
         let service = self.config.service;
@@ -137,13 +136,13 @@ impl Connection {
     fn send_and_take(
         &mut self,
         kind: Kind,
-        confirms: &[ConfirmOut],
+        confirms: &[DueConfirm],
         delivered: Option<(usize, usize)>,
         out: &mut Outbox,
     ) -> Outcome
         requires form { may_be_short (packet_type kind) ≡ false }
-        requires room { HaveRoom (map due_of confirms.now) }
-        ensures { record { after = self.new; frame = out.new; calls = []; answer = result } ≡ sends self.old (confirming kind (map due_of confirms.now)) (Took delivered) }
+        requires room { HaveRoom confirms.now }
+        ensures { record { after = self.new; frame = out.new; calls = []; answer = result } ≡ sends self.old (confirming kind confirms.now) (Took delivered) }
     {
         self.send_confirming(kind, confirms, out);
         Outcome::Took { delivered }

@@ -5,20 +5,19 @@ ghost use Rattle.ack_vectors.specs.Vector.{option_data};
 ghost use Rattle.dccp_options.specs.Written.{spelled, written};
 ghost use Rattle.dccp_endpoint.specs.Reporting.{vector_item};
 ghost use Rattle.dccp_endpoint.specs.Calling.{has_keys};
-ghost use Rattle.dccp_endpoint.specs.Heeding.{due_of};
 ghost use Rattle.dccp_endpoint.specs.ShortForm.{is_settled_on_one};
 ghost use Rattle.dccp_endpoint.specs.Speaking.{has_confirms};
 
 use super::classes::is_open;
 use super::{Connection, fit};
 use crate::outgoing::{put_alone, put_frame};
-use crate::speaking::{asking, open_offers, put_changes, put_confirms, send_all};
+use crate::speaking::{DueConfirm, asking, open_offers, put_changes, put_confirms, send_all};
 use ack_vectors::VectorBytes;
 use dccp_options::kinds::ACK_VECTOR_0;
 use dccp_options::{MOST_OPTION_BYTES, OptWriter};
 use dccp_packets::{Kind, Number, Outbox};
 use feature_lists::{Feature, Place};
-use feature_machine::{ConfirmOut, Held, Stand};
+use feature_machine::{Held, Stand};
 use seq_circle::Seq48;
 
 // The widest window under which short numbers go out, so that no valid number of a packet is far.
@@ -81,7 +80,7 @@ impl Connection {
     ghost use Rattle.dccp_endpoint.specs.Calling.{sends_data};
     ghost use Rattle.dccp_packets.specs.declared.header.Kind.TheVariants as kind;
     ghost use Rattle.dccp_packets.specs.declared.header.Number.TheVariants.{Long};
-    ghost use Rattle.dccp_endpoint.specs.Heeding.{DueConfirm, due_of};
+    ghost use Rattle.dccp_endpoint.specs.Heeding.{DueConfirm};
     ghost use Rattle.dccp_packets.specs.declared.header.Kind.{Kind};
     ghost use Rattle.dccp_endpoint.specs.Speaking.{HaveRoom, AreChanging, AreDue, asking, asking_frame, asks, confirming, offers, saying};
     ghost use Rattle.dccp_endpoint.specs.Steps.{next_frame, next_number, with_next_number};
@@ -126,11 +125,11 @@ impl Connection {
 
     // Sends a packet with only Confirms under the next number.
     #[tactic(auto, using(crate::proofs::Frames::fixed_part_is_short))]
-    pub(crate) fn send_confirming(&mut self, kind: Kind, confirms: &[ConfirmOut], out: &mut Outbox)
+    pub(crate) fn send_confirming(&mut self, kind: Kind, confirms: &[DueConfirm], out: &mut Outbox)
         requires form { may_be_short (packet_type kind) ≡ false }
-        requires room { HaveRoom (map due_of confirms.now) }
+        requires room { HaveRoom confirms.now }
         ensures counted { self.new ≡ with_next_number self.old }
-        ensures sent { out.new ≡ Some (next_frame self.old (confirming kind (map due_of confirms.now))) }
+        ensures sent { out.new ≡ Some (next_frame self.old (confirming kind confirms.now)) }
     {
         if confirms.is_empty() {
             return self.send(kind, out);
@@ -145,16 +144,16 @@ impl Connection {
     fn send_saying(
         &mut self,
         kind: Kind,
-        confirms: &[ConfirmOut],
+        confirms: &[DueConfirm],
         keys: &[(Feature, Place)],
         out: &mut Outbox,
     )
         requires form { may_be_short (packet_type kind) ≡ false }
-        requires room { HaveRoom (map due_of confirms.now) }
+        requires room { HaveRoom confirms.now }
         requires rows { length keys.now ≤ 18 }
         requires changing { AreChanging self.old.rows keys.now }
         ensures counted { self.new ≡ with_next_number self.old }
-        ensures sent { out.new ≡ Some (next_frame self.old (saying kind (map due_of confirms.now) self.old.rows keys.now)) }
+        ensures sent { out.new ≡ Some (next_frame self.old (saying kind confirms.now self.old.rows keys.now)) }
     {
         if confirms.is_empty() && keys.is_empty() {
             return self.send(kind, out);
@@ -177,8 +176,8 @@ impl Connection {
 
     // Whether a packet goes out with short numbers, if all that it says of features is these Confirms and the Changes
     // of these rows.
-    fn goes_short(&self, confirms: &[ConfirmOut], keys: &[(Feature, Place)]) -> bool
-        ensures { result ≡ (allows_short self.now && not (has_confirms (map due_of confirms.now) || has_keys keys.now)) }
+    fn goes_short(&self, confirms: &[DueConfirm], keys: &[(Feature, Place)]) -> bool
+        ensures { result ≡ (allows_short self.now && not (has_confirms confirms.now || has_keys keys.now)) }
     {
         self.allows_short() && confirms.is_empty() && keys.is_empty()
     }
@@ -235,14 +234,14 @@ impl Connection {
     pub(crate) fn send_ack_confirming(
         &mut self,
         kind: Kind,
-        confirms: &[ConfirmOut],
+        confirms: &[DueConfirm],
         out: &mut Outbox,
     )
         requires form { has_forms true kind ≡ true }
         requires may { may_be_short (packet_type kind) ≡ true }
-        requires room { HaveRoom (map due_of confirms.now) }
+        requires room { HaveRoom confirms.now }
         ensures counted { self.new ≡ acknowledged self.old }
-        ensures sent { out.new ≡ Some (next_frame self.old (reporting self.old (saying kind (map due_of confirms.now) self.old.rows []))) }
+        ensures sent { out.new ≡ Some (next_frame self.old (reporting self.old (saying kind confirms.now self.old.rows []))) }
     {
         let short = self.goes_short(confirms, &[]);
         let mut area = OptWriter::new();
@@ -330,24 +329,24 @@ impl Connection {
     pub(crate) fn send_asking(
         &mut self,
         kind: Kind,
-        confirms: &[ConfirmOut],
+        confirms: &[DueConfirm],
         keys: &[(Feature, Place)],
         out: &mut Outbox,
     )
         requires form { may_be_short (packet_type kind) ≡ false }
-        requires room { HaveRoom (map due_of confirms.now) }
+        requires room { HaveRoom confirms.now }
         requires rows { length keys.now ≤ 18 }
         requires due { AreDue self.old.rows keys.now }
         ensures counted { self.new ≡ with_next_number (asks self.old keys.now) }
-        ensures sent { out.new ≡ Some (asking_frame self.old kind (map due_of confirms.now) keys.now) }
+        ensures sent { out.new ≡ Some (asking_frame self.old kind confirms.now keys.now) }
     {
         self.ask(keys);
         self.send_saying(kind, confirms, keys, out);
     }
 
     // Makes all offers that were not made yet; those of rows that have a Confirm on the packet are dropped.
-    fn offer(&mut self, confirms: &[ConfirmOut])
-        ensures { self.new ≡ offers self.old (map due_of confirms.now) }
+    fn offer(&mut self, confirms: &[DueConfirm])
+        ensures { self.new ≡ offers self.old confirms.now }
     {
         open_offers(&mut self.rows, confirms);
         fit(&mut self.marks, &self.rows);
@@ -366,12 +365,12 @@ impl Connection {
 
     // Makes all offers, and then sends a packet with these Confirms, and with the Changes of all rows that ask and have
     // no Confirm in it.
-    pub(crate) fn send_offering(&mut self, kind: Kind, confirms: &[ConfirmOut], out: &mut Outbox)
+    pub(crate) fn send_offering(&mut self, kind: Kind, confirms: &[DueConfirm], out: &mut Outbox)
         requires form { may_be_short (packet_type kind) ≡ false }
-        requires room { HaveRoom (map due_of confirms.now) }
-        ensures counted { self.new ≡ with_next_number (asks (offers self.old (map due_of confirms.now)) (asking (offers self.old (map due_of confirms.now)).rows (map due_of confirms.now))) }
-        ensures sent { out.new ≡ Some (asking_frame (offers self.old (map due_of confirms.now)) kind (map due_of confirms.now)
-            (asking (offers self.old (map due_of confirms.now)).rows (map due_of confirms.now))) }
+        requires room { HaveRoom confirms.now }
+        ensures counted { self.new ≡ with_next_number (asks (offers self.old confirms.now) (asking (offers self.old confirms.now).rows confirms.now)) }
+        ensures sent { out.new ≡ Some (asking_frame (offers self.old confirms.now) kind confirms.now
+            (asking (offers self.old confirms.now).rows confirms.now)) }
     {
         if self.asks_nothing() {
             return self.send_confirming(kind, confirms, out);

@@ -1,7 +1,6 @@
-use Rattle.std.proofs.Common.{◌≡◌, ◌∙◌, List, [], ◌++◌, ap, arith, length, map, subst, sym}
+use Rattle.std.proofs.Common.{◌≡◌, ◌∙◌, List, [], ◌++◌, ap, arith, length, subst, sym}
 use Rattle.std.proofs.lemmas.List.{append-nil}
 use Rattle.feature_machine.specs.Negotiating.{due_keys}
-use Rattle.dccp_endpoint.specs.Heeding.{due_of}
 use Rattle.dccp_endpoint.specs.Speaking.{AreDue, asking, unconfirmed}
 use Rattle.dccp_endpoint.specs.Turns.{Key}
 use Rattle.dccp_endpoint.proofs.Asking.{asking_are_due}
@@ -19,13 +18,13 @@ loop-feature-init c =
     record {
       few = omega arith;
       joins =
-          ap (λ (keys : List Key). keys ++ unconfirmed (map due_of c.args.confirms.now) c.into_iter-feature-iterator.result) none
-          ∙ ap (λ (keys : List Key). unconfirmed (map due_of c.args.confirms.now) keys) all;
+          ap (λ (keys : List Key). keys ++ unconfirmed c.args.confirms.now c.into_iter-feature-iterator.result) none
+          ∙ ap (λ (keys : List Key). unconfirmed c.args.confirms.now keys) all;
     }
 
 pub returns-clause-due : goal.returns-clause-due
 returns-clause-due c =
     let none : c.loop-feature.feature-iterator ≡ [] = c.in-None.ensures.steps.0 in
     let joins = rw none at c.loop-feature.invariant.joins in
-    let is : c.loop-feature.keys ≡ asking c.args.rows.now (map due_of c.args.confirms.now) = sym (append-nil c.loop-feature.keys) ∙ joins in
-    subst (λ keys. AreDue c.args.rows.now keys) (sym is) (asking_are_due c.args.rows.now (map due_of c.args.confirms.now) c.requires)
+    let is : c.loop-feature.keys ≡ asking c.args.rows.now c.args.confirms.now = sym (append-nil c.loop-feature.keys) ∙ joins in
+    subst (λ keys. AreDue c.args.rows.now keys) (sym is) (asking_are_due c.args.rows.now c.args.confirms.now c.requires)

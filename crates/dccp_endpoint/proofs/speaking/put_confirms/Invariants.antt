@@ -1,12 +1,11 @@
-use Rattle.std.proofs.Common.{◌≡◌, ◌+◌, ◌++◌, drop, length, map}
+use Rattle.std.proofs.Common.{◌≡◌, ◌+◌, ◌++◌, drop, length}
 use Rattle.dccp_options.specs.Written.{written}
-use Rattle.dccp_endpoint.specs.Heeding.{due_of}
 use Rattle.dccp_endpoint.specs.Speaking.{confirm_items}
 use Rattle.dccp_endpoint.proofs.speaking.put_confirms.Given as goal
 
 abbrev pub invariant-loop-confirm : goal.invariant-loop-confirm
 invariant-loop-confirm l = record {
-  room : length l.area + length (written (confirm_items (map due_of (drop l.confirm-index l.confirms)))) ≡ length l.initial.area + length
-      (written (confirm_items (map due_of l.confirms)));
-  joins : l.area ++ written (confirm_items (map due_of (drop l.confirm-index l.confirms))) ≡ l.initial.area ++ written (confirm_items (map due_of l.confirms));
+  room : length l.area + length (written (confirm_items (drop l.confirm-index l.confirms))) ≡ length l.initial.area + length
+      (written (confirm_items l.confirms));
+  joins : l.area ++ written (confirm_items (drop l.confirm-index l.confirms)) ≡ l.initial.area ++ written (confirm_items l.confirms);
 }

@@ -1,4 +1,4 @@
-use Rattle.std.proofs.Common.{◌∙◌, ◌&&◌, List, Result, ap, map, subst, sym}
+use Rattle.std.proofs.Common.{◌∙◌, ◌&&◌, List, Result, ap, subst, sym}
 use Rattle.feature_machine.specs.Negotiating.{AreRowsOf}
 use Rattle.feature_machine.specs.declared.row.Row.{Row}
 use Rattle.feature_machine.specs.declared.stands.Role2.{Role2}
@@ -6,7 +6,7 @@ use Rattle.dccp_endpoint.specs.Congesting.{calls_for}
 use Rattle.dccp_endpoint.specs.Controlled.{after_calls, with_control}
 use Rattle.dccp_endpoint.specs.End.{EndState, end_of, with_rows}
 use Rattle.dccp_endpoint.specs.Faults.{counts}
-use Rattle.dccp_endpoint.specs.Heeding.{DueConfirm, ReadingState, due_of, heeding_or}
+use Rattle.dccp_endpoint.specs.Heeding.{DueConfirm, ReadingState, heeding_or}
 use Rattle.dccp_endpoint.specs.Incoming.{Incoming}
 use Rattle.dccp_endpoint.specs.Receiving.{heeded, processes}
 use Rattle.dccp_endpoint.specs.Speaking.{HaveRoom}
@@ -33,7 +33,7 @@ returns-in-Ok g c =
     let h : ReadingState = c.read_options.new.reading in
     handed g.C.Congestion.control c.args.congestion.now (processes (with_rows e h.rows) a h.confirms) _ (calls_for a e.rows h.rows) c.hand_over.new.congestion
     (c.process.ensures
-    ∙ ap (λ (x : EndState). processes x a (map due_of c.confirms.result.now)) (c.store.ensures ∙ ap (λ (r : List Row). with_rows e r) c.rows-in-Ok-3.ensures)
+    ∙ ap (λ (x : EndState). processes x a c.confirms.result.now) (c.store.ensures ∙ ap (λ (r : List Row). with_rows e r) c.rows-in-Ok-3.ensures)
     ∙ ap (λ (confirms : List DueConfirm). processes (with_rows e h.rows) a confirms) c.confirms.ensures.confirms)
     (c.hand_over.ensures
     ∙ ap (λ (old : List Row). after_calls g.C.Congestion.control c.args.congestion.now (calls_for a old c.rows-in-Ok-2.result.now)) c.rows-in-Ok.ensures.value

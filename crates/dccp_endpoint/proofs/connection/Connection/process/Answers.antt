@@ -1,11 +1,11 @@
-use Rattle.std.proofs.Common.{◌≡◌, ◌∙◌, ℕ, List, Option, ap, map}
+use Rattle.std.proofs.Common.{◌≡◌, ◌∙◌, ℕ, List, Option, ap}
 use Rattle.dccp_states.specs.Phases.{after}
 use Rattle.dccp_states.specs.declared.phase.Phase.{Phase}
 use Rattle.dccp_states.specs.declared.reply.Reply.{Reply}
 use Rattle.run_list.specs.MarkedSet.{answer_to}
 use Rattle.run_list.specs.declared.answers.Marked.{Marked}
 use Rattle.dccp_endpoint.specs.End.{EndState}
-use Rattle.dccp_endpoint.specs.Heeding.{DueConfirm, due_of}
+use Rattle.dccp_endpoint.specs.Heeding.{DueConfirm}
 use Rattle.dccp_endpoint.specs.Incoming.{Incoming}
 use Rattle.dccp_endpoint.specs.Receiving.{accounted, delivering, moved_to, moves, replies}
 use Rattle.dccp_endpoint.specs.Reporting.{counts_data, delivers, looked_up, looks_up, marks}
@@ -16,7 +16,7 @@ pub returns : goal.returns
 returns c =
     let e : EndState = c.args.self.now in
     let a : Incoming = c.args.packet.now in
-    let confirms : List DueConfirm = map due_of c.args.confirms.now in
+    let confirms : List DueConfirm = c.args.confirms.now in
     let row : Phase × Reply = c.after-phase.result in
     let moved : EndState = c.move_to.new.self in
     let mark : Marked = c.mark-mark.result in

@@ -1,10 +1,10 @@
-use Rattle.std.proofs.Common.{◌≡◌, ◌∙◌, ◌++◌, ℕ, Bool, List, [], Some, ap, sym, map}
+use Rattle.std.proofs.Common.{◌≡◌, ◌∙◌, ◌++◌, ℕ, Bool, List, [], Some, ap, sym}
 use Rattle.dccp_options.specs.Written.{Item, written}
 use Rattle.dccp_endpoint.specs.Drafts.{framed, sent_as}
 use Rattle.dccp_endpoint.specs.End.{EndState}
 use Rattle.dccp_endpoint.specs.Reporting.{sends_vectors, vector_items}
 use Rattle.dccp_endpoint.specs.Steps.{next_number}
-use Rattle.dccp_endpoint.specs.Heeding.{DueConfirm, due_of}
+use Rattle.dccp_endpoint.specs.Heeding.{DueConfirm}
 use Rattle.dccp_endpoint.specs.Speaking.{confirm_items}
 use Rattle.dccp_endpoint.proofs.Short.{short_ack}
 use Rattle.dccp_endpoint.proofs.Writing.{written_confirms}
@@ -14,7 +14,7 @@ pub returns-clause-sent : goal.returns-clause-sent
 returns-clause-sent c =
     let e : EndState = c.args.self.now in
     let vector : List Item = vector_items (sends_vectors e.rows) e.config.vectors e.received.set e.marks.gsr in
-    let confirms : List DueConfirm = map due_of c.args.confirms.now in
+    let confirms : List DueConfirm = c.args.confirms.now in
     let said : List Item = confirm_items confirms in
     let area : c.put_confirms.new.area ≡ written (vector ++ (said ++ [])) =
     c.put_confirms.ensures.bytes

@@ -1,8 +1,7 @@
-use Rattle.std.proofs.Common.{◌∙◌, ◌++◌, ℕ, Bool, false, List, [], Some, ap, map, sym}
+use Rattle.std.proofs.Common.{◌∙◌, ◌++◌, ℕ, Bool, false, List, [], Some, ap, sym}
 use Rattle.dccp_options.specs.Written.{written}
 use Rattle.dccp_endpoint.specs.Drafts.{Draft, framed, sent_as, sent_of}
 use Rattle.dccp_endpoint.specs.End.{EndState}
-use Rattle.dccp_endpoint.specs.Heeding.{due_of}
 use Rattle.dccp_endpoint.specs.Speaking.{confirming}
 use Rattle.dccp_endpoint.specs.Steps.{next_number}
 use Rattle.dccp_endpoint.proofs.Short.{stays_long}
@@ -11,7 +10,7 @@ use Rattle.dccp_endpoint.proofs.connection.Connection.send_confirming.Goals as g
 pub returns-clause-sent : goal.returns-clause-sent
 returns-clause-sent c =
     let e : EndState = c.args.self.now in
-    let draft : Draft = confirming c.args.kind (map due_of c.args.confirms.now) in
+    let draft : Draft = confirming c.args.kind c.args.confirms.now in
     c.send_with.ensures.sent
     ∙ ap (λ (options : List ℕ). Some (sent_as (next_number e) draft.kind (framed e.config false (next_number e) draft.kind options [])))
     (c.put_confirms.ensures.bytes ∙ ap (λ (front : List ℕ). front ++ written draft.options) c.new-area.ensures)

@@ -1,8 +1,8 @@
-use Rattle.std.proofs.Common.{◌≡◌, ◌∙◌, List, Option, Some, ap, map, sym}
+use Rattle.std.proofs.Common.{◌≡◌, ◌∙◌, List, Option, Some, ap, sym}
 use Rattle.dccp_packets.specs.Outgoing.{Outgoing}
 use Rattle.feature_machine.specs.declared.row.Row.{Row}
 use Rattle.dccp_endpoint.specs.End.{EndState}
-use Rattle.dccp_endpoint.specs.Heeding.{DueConfirm, due_of}
+use Rattle.dccp_endpoint.specs.Heeding.{DueConfirm}
 use Rattle.dccp_endpoint.specs.Speaking.{asking, asks, offers, saying}
 use Rattle.dccp_endpoint.specs.Steps.{next_frame, with_next_number}
 use Rattle.dccp_endpoint.specs.Turns.{Key}
@@ -12,19 +12,19 @@ use Rattle.dccp_endpoint.proofs.connection.Connection.send_offering.Goals as goa
 pub returns-then-asks_nothing-clause-counted : goal.returns-then-asks_nothing-clause-counted
 returns-then-asks_nothing-clause-counted c =
     c.send_confirming.ensures.counted
-    ∙ ap (λ (x : EndState). with_next_number x) (sym (c.asks_nothing.ensures.stays c.if-asks_nothing.true (map due_of c.args.confirms.now)))
+    ∙ ap (λ (x : EndState). with_next_number x) (sym (c.asks_nothing.ensures.stays c.if-asks_nothing.true c.args.confirms.now))
 
 pub returns-then-asks_nothing-clause-sent : goal.returns-then-asks_nothing-clause-sent
 returns-then-asks_nothing-clause-sent c =
     c.send_confirming.ensures.sent
     ∙ ap (λ (frame : Outgoing). Some frame)
-    (sym (c.asks_nothing.ensures.said c.if-asks_nothing.true c.args.kind (map due_of c.args.confirms.now)))
+    (sym (c.asks_nothing.ensures.said c.if-asks_nothing.true c.args.kind c.args.confirms.now))
 
 -- something may
 pub returns-clause-sent : goal.returns-clause-sent
 returns-clause-sent c =
     let e : EndState = c.args.self.now in
-    let confirms : List DueConfirm = map due_of c.args.confirms.now in
+    let confirms : List DueConfirm = c.args.confirms.now in
     let frame : EndState → List Key → Option Outgoing =
     λ x keys. Some (next_frame (asks x keys) (saying c.args.kind confirms (asks x keys).rows keys)) in
     let keys : c.as_slice.result.now ≡ asking (offers e confirms).rows confirms =

@@ -1,8 +1,7 @@
-use Rattle.std.proofs.Common.{◌∙◌, ◌++◌, ℕ, Bool, false, List, [], Some, ap, map, sym}
+use Rattle.std.proofs.Common.{◌∙◌, ◌++◌, ℕ, Bool, false, List, [], Some, ap, sym}
 use Rattle.dccp_options.specs.Written.{written}
 use Rattle.dccp_endpoint.specs.Drafts.{Draft, framed, sent_as, sent_of}
 use Rattle.dccp_endpoint.specs.End.{EndState}
-use Rattle.dccp_endpoint.specs.Heeding.{due_of}
 use Rattle.dccp_endpoint.specs.Speaking.{change_items, confirm_items, saying}
 use Rattle.dccp_endpoint.specs.Steps.{next_number}
 use Rattle.dccp_endpoint.proofs.Short.{stays_long}
@@ -12,13 +11,13 @@ use Rattle.dccp_endpoint.proofs.connection.Connection.send_saying.Goals as goal
 pub returns-clause-sent : goal.returns-clause-sent
 returns-clause-sent c =
     let e : EndState = c.args.self.now in
-    let draft : Draft = saying c.args.kind (map due_of c.args.confirms.now) e.rows c.args.keys.now in
-    let said : List ℕ = written (confirm_items (map due_of c.args.confirms.now)) in
+    let draft : Draft = saying c.args.kind c.args.confirms.now e.rows c.args.keys.now in
+    let said : List ℕ = written (confirm_items c.args.confirms.now) in
     c.send_with.ensures.sent
     ∙ ap (λ (options : List ℕ). Some (sent_as (next_number e) draft.kind (framed e.config false (next_number e) draft.kind options [])))
     (c.put_changes.ensures.bytes
     ∙ ap (λ (x : EndState). c.put_confirms.new.area ++ written (change_items x.rows c.args.keys.now)) c.self.view_is
     ∙ ap (λ (front : List ℕ). front ++ written (change_items e.rows c.args.keys.now))
     (c.put_confirms.ensures.bytes ∙ ap (λ (front : List ℕ). front ++ said) c.new-area.ensures)
-    ∙ written_both (confirm_items (map due_of c.args.confirms.now)) (change_items e.rows c.args.keys.now))
+    ∙ written_both (confirm_items c.args.confirms.now) (change_items e.rows c.args.keys.now))
     ∙ ap (λ (short : Bool). Some (sent_of e.config short (next_number e) draft)) (sym (stays_long e draft c.requires.form))
