@@ -2,11 +2,10 @@
 ghost use Rattle.std.specs.Prelude.{◌≡◌};
 ghost use Rattle.dccp_endpoint.specs.End.{end_of, first_phase, with_widths};
 
+use crate::Config;
 use crate::config::number as seq48;
-use crate::{Config, Held};
 use ack_vectors::Received;
 use dccp_states::{Phase, Role};
-use dccp_sum::Pseudo;
 use feature_lists::{Feature, Place, initial};
 use feature_machine::{Negotiation, Role2};
 use seq_circle::{NoMemory, Seq48};
@@ -24,6 +23,7 @@ mod sending;
 
 pub use calling::{MOST_DATA_BYTES, applies_in};
 pub(crate) use classes::is_open;
+pub(crate) use early::is_part_open;
 
 // The end to which the rows of the negotiation belong.
 fn end_of(role: Role) -> Role2
@@ -54,19 +54,19 @@ fn fit(marks: &mut Marks, rows: &Negotiation)
 }
 
 /// One end of a connection without its congestion control, which is lent to it when something is due to that. Its calls
-/// are those of `Endpoint`.
+/// are those of `Endpoint`, which reads its fields.
 #[derive(Drop)]
 pub(crate) struct Connection {
-    config: Config,
-    phase: Phase,
+    pub(crate) config: Config,
+    pub(crate) phase: Phase,
     opened: bool,
-    marks: Marks,
-    received: Received,
-    rows: Negotiation,
-    marked: u64,
+    pub(crate) marks: Marks,
+    pub(crate) received: Received,
+    pub(crate) rows: Negotiation,
+    pub(crate) marked: u64,
     owed: bool,
     unacked: u16,
-    last: Seq48,
+    pub(crate) last: Seq48,
 }
 
 impl Model for Connection {
@@ -81,10 +81,8 @@ impl Model for Connection {
 
 impl Connection {
     ghost use Rattle.std.specs.Prelude.{◌≡◌, IfOk};
-    ghost use Rattle.dccp_endpoint.specs.End.{EndState, IsProper, floor_of, held_of, last_taken, marked_of, new_end, with_rows};
+    ghost use Rattle.dccp_endpoint.specs.End.{EndState, new_end, with_rows};
     ghost use Rattle.feature_machine.specs.Negotiating.{AreRowsOf};
-    ghost use Rattle.run_list.specs.MarkedSet.{IsSound};
-    ghost use Rattle.validity_windows.specs.Windows.{InRange};
 
     /// An end of this configuration: CLOSED for a client, LISTEN for a server (RFC 4340, section 8.1).
     pub(crate) fn new(alloc: Global, config: Config) -> Result<Connection, NoMemory>
@@ -110,44 +108,6 @@ impl Connection {
         })
     }
 
-    /// The phase.
-    pub(crate) fn phase(&self) -> Phase
-        ensures { result ≡ self.now.phase }
-    {
-        self.phase
-    }
-
-    /// The addresses of the packets that it sends.
-    pub(crate) fn pseudo_out(&self) -> Pseudo
-        ensures { result ≡ self.now.config.pseudo_out }
-    {
-        self.config.pseudo_out
-    }
-
-    /// The Service Code that it asks for or serves.
-    pub(crate) fn service(&self) -> u32
-        ensures { result ≡ self.now.config.service }
-    {
-        self.config.service
-    }
-
-    /// The first and greatest numbers sent and received, and the widths of the windows (RFC 4340, section 7.1).
-    pub(crate) fn marks(&self) -> Marks
-        ensures value { result ≡ self.now.marks }
-        ensures in_range { InRange result }
-        ensures proper { IsProper self.now }
-    {
-        self.marks
-    }
-
-    /// The value that the end holds for a feature at a place, and the stand of its negotiation (RFC 4340, section
-    /// 6.6.2).
-    pub(crate) fn held(&self, feature: Feature, place: Place) -> Held
-        ensures { result ≡ held_of self.now feature place }
-    {
-        self.rows.held(feature, place)
-    }
-
     // The rows: they are of the end's role, and the windows are as wide as they say.
     fn rows(&self) -> &Negotiation
         ensures value { result.now ≡ self.now.rows }
@@ -164,27 +124,5 @@ impl Connection {
     {
         fit(&mut self.marks, rows);
         self.rows = *rows;
-    }
-
-    /// The least number that an Ack Vector may report (RFC 4340, section 11.4.2), or 0 before the first was received.
-    pub(crate) fn floor(&self) -> Seq48
-        ensures value { result ≡ floor_of self.now }
-        ensures sound { IsSound self.now.received.set }
-    {
-        self.received.floor()
-    }
-
-    /// How many numbers were taken.
-    pub(crate) fn marked(&self) -> u64
-        ensures { result ≡ marked_of self.now }
-    {
-        self.marked
-    }
-
-    /// The number that was taken last, or 0 before the first was.
-    pub(crate) fn last_taken(&self) -> Seq48
-        ensures { result ≡ last_taken self.now }
-    {
-        self.last
     }
 }

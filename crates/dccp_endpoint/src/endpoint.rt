@@ -1,5 +1,5 @@
 //! The end with its congestion control.
-use crate::connection::{Connection, is_open};
+use crate::connection::{Connection, is_open, is_part_open};
 use crate::{
     AbortFault, CloseFault, Config, Feature, Held, Marks, OpenFault, Outcome, Phase, Place,
     PreferFault, Pseudo, Role, SendFault, Timer,
@@ -132,21 +132,21 @@ impl<C: Congestion> Endpoint<C> {
     pub fn phase(&self) -> Phase
         ensures { result ≡ self.now.state.phase }
     {
-        self.connection.phase()
+        self.connection.phase
     }
 
     /// The addresses of the packets that it sends, for a caller that seals a frame of the end again.
     pub fn pseudo_out(&self) -> Pseudo
         ensures { result ≡ self.now.state.config.pseudo_out }
     {
-        self.connection.pseudo_out()
+        self.connection.config.pseudo_out
     }
 
     /// The Service Code that it asks for as a client, or serves as a server (RFC 4340, section 8.1.2).
     pub fn service(&self) -> u32
         ensures { result ≡ self.now.state.config.service }
     {
-        self.connection.service()
+        self.connection.config.service
     }
 
     /// The first and greatest numbers sent and received, and the widths of the windows (RFC 4340, section 7.1). The
@@ -157,7 +157,7 @@ impl<C: Congestion> Endpoint<C> {
         ensures in_range { InRange result }
         ensures proper { IsProper self.now.state }
     {
-        self.connection.marks()
+        self.connection.marks
     }
 
     /// The value that the end holds for a feature at a place, and the stand of its negotiation (RFC 4340, section
@@ -165,7 +165,7 @@ impl<C: Congestion> Endpoint<C> {
     pub fn held(&self, feature: Feature, place: Place) -> Held
         ensures { result ≡ held_of self.now.state feature place }
     {
-        self.connection.held(feature, place)
+        self.connection.rows.held(feature, place)
     }
 
     /// How many data packets may be in flight: 1 to 1,024.
@@ -205,7 +205,7 @@ impl<C: Congestion> Endpoint<C> {
         ensures value { result ≡ floor_of self.now.state }
         ensures sound { IsSound self.now.state.received.set }
     {
-        self.connection.floor()
+        self.connection.received.floor()
     }
 
     /// The number of the packet that was taken last, in full, or 0 before the first was (own): after a `receive` that
@@ -213,7 +213,7 @@ impl<C: Congestion> Endpoint<C> {
     pub fn last_taken(&self) -> Seq48
         ensures { result ≡ last_taken self.now.state }
     {
-        self.connection.last_taken()
+        self.connection.last
     }
 
     /// Whether packets with short numbers are taken (RFC 4340, section 7.6.1): the peer's Allow Short Sequence Numbers
@@ -228,7 +228,7 @@ impl<C: Congestion> Endpoint<C> {
     pub fn marked(&self) -> u64
         ensures { result ≡ marked_of self.now.state }
     {
-        self.connection.marked()
+        self.connection.marked
     }
 
     /// The client sends its Request (RFC 4340, section 8.1.1). Refused with `NotFresh` exactly if the end is a server
@@ -306,7 +306,7 @@ impl<C: Congestion> Endpoint<C> {
         ensures refused { OnErr result (self.new ≡ self.old) }
         ensures sends_nothing { OnErr result (out.new ≡ None) }
     {
-        if self.connection.is_part_open() {
+        if is_part_open(self.connection.phase) {
             self.send_early(payload, out)
         } else {
             self.send(payload, out)
@@ -391,7 +391,7 @@ impl<C: Congestion> Endpoint<C> {
         ensures sends_nothing { result ≡ false → out.new ≡ None }
     {
         out.clear();
-        if !is_open(self.connection.phase()) || self.congestion.in_flight() == 0 {
+        if !is_open(self.connection.phase) || self.congestion.in_flight() == 0 {
             return false;
         }
         self.congestion.on_timeout();
@@ -438,7 +438,9 @@ impl<C: Congestion> Endpoint<C> {
         ensures dropped { OnDropped result ((self.new ≡ self.old) × (out.new ≡ None)) }
         ensures effect { HasEffectOf self.old.state bytes.now result self.new.state out.new (receives self.old.state bytes.now).calls }
     {
-        self.connection.receive(bytes, out, &mut self.congestion)
+        self.connection.shows_proper();
+        out.clear();
+        self.connection.take_bytes(bytes, out, &mut self.congestion)
     }
 
     /// Takes bytes that arrived, as [`Endpoint::receive`] does, for an owner that has decoded them: `packet` is what
@@ -453,7 +455,9 @@ impl<C: Congestion> Endpoint<C> {
         ensures dropped { OnDropped result ((self.new ≡ self.old) × (out.new ≡ None)) }
         ensures effect { HasEffectOf self.old.state bytes.now result self.new.state out.new (receives self.old.state bytes.now).calls }
     {
+        self.connection.shows_proper();
+        out.clear();
         self.connection
-            .receive_packet(packet, bytes, out, &mut self.congestion)
+            .take_packet(packet, bytes, out, &mut self.congestion)
     }
 }

@@ -9,7 +9,7 @@ use dccp_states::Phase;
 use seq_circle::Seq48;
 
 // The phase is PARTOPEN.
-fn is_part_open(phase: Phase) -> bool
+pub(crate) fn is_part_open(phase: Phase) -> bool
     ensures { result ≡ is_part_open phase }
 {
     matches!(phase, Phase::PartOpen)
@@ -18,21 +18,14 @@ fn is_part_open(phase: Phase) -> bool
 impl Connection {
     ghost use Rattle.std.specs.Prelude.{◌≡◌, ◌≤◌, [], length, true, Ok};
     ghost use Rattle.dccp_endpoint.specs.Calling.{sends_data};
-    ghost use Rattle.dccp_endpoint.specs.Early.{early_fault, is_part_open};
+    ghost use Rattle.dccp_endpoint.specs.Early.{early_fault};
     ghost use Rattle.dccp_endpoint.specs.Steps.{next_number};
-
-    /// Whether data that are sent now are early.
-    pub(crate) fn is_part_open(&self) -> bool
-        ensures { result ≡ is_part_open self.now.phase }
-    {
-        is_part_open(self.phase)
-    }
 
     /// Why early data are not sent, or None if they are.
     pub(crate) fn early_fault(&self, payload: &[u8], may_send: bool) -> Option<SendFault>
         ensures { result ≡ early_fault self.now payload.now may_send }
     {
-        self.fault_where(self.is_part_open(), payload, may_send)
+        self.fault_where(is_part_open(self.phase), payload, may_send)
     }
 
     /// Sends data on a DataAck, even if no acknowledgement is owed, and returns its number.

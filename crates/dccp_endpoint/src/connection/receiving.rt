@@ -24,7 +24,7 @@ impl Connection {
     ghost use Rattle.dccp_states.specs.Phases.{after};
     ghost use Rattle.dccp_states.specs.declared.phase.Phase.TheVariants as phase;
     ghost use Rattle.validity_windows.specs.Verdict.{verdict};
-    ghost use Rattle.dccp_endpoint.specs.Controlled.{end_with, with_control};
+    ghost use Rattle.dccp_endpoint.specs.Controlled.{with_control};
     ghost use Rattle.dccp_endpoint.specs.End.{IsPhaseOf, IsProper};
     ghost use Rattle.dccp_endpoint.specs.Heeding.{heeding_or, unheeded};
     ghost use Rattle.dccp_endpoint.specs.Speaking.{HaveRoom};
@@ -34,59 +34,17 @@ impl Connection {
     ghost use Rattle.dccp_endpoint.specs.Receiving.{acknowledges_in_window, answers, takes_answer, raises, checks_numbers, ends_by_reset, is_unexpected, is_other_service, checks_type, heeded, reads_options, moved_to, processes};
     ghost use Rattle.dccp_endpoint.specs.Reporting.{counts_data, delivered_if, delivers, looked_up, looks_up, marks};
     ghost use Rattle.run_list.specs.MarkedSet.{answer_to};
-    ghost use Rattle.dccp_endpoint.specs.Outcomes.{HasCause, HasEffectOf, HasNoOtherCause, OnDropped};
 
-    /// Takes bytes that arrived, and hands to the congestion control what is due to it.
-    pub(crate) fn receive<C: Congestion>(
-        &mut self,
-        bytes: &[u8],
-        out: &mut Outbox,
-        congestion: &mut C,
-    ) -> Outcome
-        requires { length bytes.now ≤ 2044 }
-        ensures step { record { after = record { state = self.new; congestion = congestion.new }; frame = out.new; answer = result } ≡ with_control C.control congestion.old (receives self.old bytes.now) }
-        ensures cause { HasCause self.old bytes.now result }
-        ensures no_other_cause { HasNoOtherCause self.old bytes.now result }
-        ensures dropped { OnDropped result ((end_with self.new congestion.new ≡ end_with self.old congestion.old) × (out.new ≡ None)) }
-        ensures effect { HasEffectOf self.old bytes.now result self.new out.new (receives self.old bytes.now).calls }
-    {
-        self.shows_proper();
-        out.clear();
-        self.take_bytes(bytes, out, congestion)
-    }
-
-    /// The same of bytes that the caller has decoded.
-    pub(crate) fn receive_packet<C: Congestion>(
-        &mut self,
-        packet: &Packet<'_>,
-        bytes: &[u8],
-        out: &mut Outbox,
-        congestion: &mut C,
-    ) -> Outcome
-        requires short { length bytes.now ≤ 2044 }
-        requires read { decoded bytes.now ≡ Ok (parts_of_packet packet.now) }
-        requires options { length packet.now.options.now ≤ 1008 }
-        ensures step { record { after = record { state = self.new; congestion = congestion.new }; frame = out.new; answer = result } ≡ with_control C.control congestion.old (receives self.old bytes.now) }
-        ensures cause { HasCause self.old bytes.now result }
-        ensures no_other_cause { HasNoOtherCause self.old bytes.now result }
-        ensures dropped { OnDropped result ((end_with self.new congestion.new ≡ end_with self.old congestion.old) × (out.new ≡ None)) }
-        ensures effect { HasEffectOf self.old bytes.now result self.new out.new (receives self.old bytes.now).calls }
-    {
-        self.shows_proper();
-        out.clear();
-        self.take_packet(packet, bytes, out, congestion)
-    }
-
-    // Reading a field gives the prover the type's invariant.
-    fn shows_proper(&self)
+    /// Reading a field gives the prover the type's invariant.
+    pub(crate) fn shows_proper(&self)
         ensures { IsProper self.now }
     {
         let _phase = self.phase;
     }
 
-    // Step 1, and the other steps for a packet that it lets pass.
+    /// Step 1, and the other steps for a packet that it lets pass, with what is due to the congestion control.
     #[tactic(auto, unfolding(crate::specs::Receiving::receives))]
-    fn take_bytes<C: Congestion>(
+    pub(crate) fn take_bytes<C: Congestion>(
         &mut self,
         bytes: &[u8],
         out: &mut Outbox,
@@ -102,10 +60,10 @@ impl Connection {
         }
     }
 
-    // The same for bytes that were decoded: the checks of header and checksum, and the other steps for a packet that
-    // they let pass.
+    /// The same for bytes that were decoded: the checks of header and checksum, and the other steps for a packet that
+    /// they let pass.
     #[tactic(auto, unfolding(crate::specs::Receiving::receives))]
-    fn take_packet<C: Congestion>(
+    pub(crate) fn take_packet<C: Congestion>(
         &mut self,
         packet: &Packet<'_>,
         bytes: &[u8],
