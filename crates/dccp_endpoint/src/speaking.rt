@@ -220,7 +220,6 @@ pub(crate) fn send_all(rows: &mut Negotiation, keys: &[(Feature, Place)], number
 }
 
 // Writes the bytes of a wish: the list, or the one value in as many bytes as the feature has.
-#[tactic(auto, using(crate::proofs::Wishes::number_wish))]
 fn put_wish(body: &mut ArrayVec<u8, 9>, feature: Feature, place: Place, wish: Wanted)
     requires wish { is_wish feature place wish ≡ true }
     requires room { array_vec_len body.old ≤ 1 }

@@ -87,7 +87,6 @@ pub(crate) fn hand_over<C: Congestion>(
 }
 
 // The same of a packet whose options say nothing to the rows: then no CCID changes.
-#[tactic(auto, using(crate::proofs::Handing::due_where_rows_stay))]
 pub(crate) fn hand_over_report<C: Congestion>(
     packet: &IncomingPacket<'_>,
     rows: &Negotiation,

@@ -148,7 +148,6 @@ impl Connection {
     }
 
     // Steps 2 to 7 and 9, in their order; an error if the packet leaves at one of them.
-    #[tactic(auto, using(crate::proofs::Phases::accept_fits))]
     fn take_steps(&mut self, packet: &IncomingPacket<'_>) -> Result<(), Exit>
         ensures course { course self.new result ≡ through (Goes self.old) (the_steps packet.now (gate self.old.phase packet.now.kind)) }
         ensures config { self.new.config ≡ self.old.config }
@@ -448,7 +447,6 @@ impl Connection {
     }
 
     // The packet is marked, what it acknowledges is looked up, and then come steps 10 to 16.
-    #[tactic(auto, using(crate::proofs::Phases::after_fits))]
     fn process(
         &mut self,
         packet: &IncomingPacket<'_>,

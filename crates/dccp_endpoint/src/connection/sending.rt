@@ -124,7 +124,6 @@ impl Connection {
     }
 
     // Sends a packet with only Confirms under the next number.
-    #[tactic(auto, using(crate::proofs::Frames::fixed_part_is_short))]
     pub(crate) fn send_confirming(&mut self, kind: Kind, confirms: &[DueConfirm], out: &mut Outbox)
         requires form { may_be_short (packet_type kind) ≡ false }
         requires room { HaveRoom confirms.now }
@@ -140,7 +139,6 @@ impl Connection {
     }
 
     // Sends a packet that says all that is due: the Confirms, and the Changes of these rows, which are in CHANGING.
-    #[tactic(auto, using(crate::proofs::Frames::fixed_part_is_short))]
     fn send_saying(
         &mut self,
         kind: Kind,
@@ -230,7 +228,6 @@ impl Connection {
     }
 
     // Sends an Ack with its Ack Vector, then the Confirms. With these there is no room for the Changes of all rows.
-    #[tactic(auto, using(crate::proofs::Frames::fixed_part_is_short))]
     pub(crate) fn send_ack_confirming(
         &mut self,
         kind: Kind,
@@ -252,7 +249,6 @@ impl Connection {
     }
 
     // Sends an Ack with its Ack Vector, then the Changes of these rows, which are in CHANGING.
-    #[tactic(auto, using(crate::proofs::Frames::fixed_part_is_short))]
     pub(crate) fn send_ack_asking(
         &mut self,
         kind: Kind,
@@ -275,7 +271,6 @@ impl Connection {
     }
 
     // Sends a DataAck, which has no options except its Ack Vector.
-    #[tactic(auto, using(crate::proofs::Frames::fixed_part_is_short))]
     pub(crate) fn send_data_ack(&mut self, payload: &[u8], out: &mut Outbox)
         requires { length payload.now ≤ 1024 }
         ensures counted { self.new ≡ acknowledged self.old }

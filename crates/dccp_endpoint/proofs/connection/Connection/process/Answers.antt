@@ -1,16 +1,24 @@
-use Rattle.std.proofs.Common.{◌≡◌, ◌∙◌, ℕ, List, Option, ap}
+use Rattle.std.proofs.Common.{◌≡◌, ◌∙◌, ℕ, List, Option, ap, subst, sym, true}
 use Rattle.dccp_states.specs.Phases.{after}
 use Rattle.dccp_states.specs.declared.phase.Phase.{Phase}
 use Rattle.dccp_states.specs.declared.reply.Reply.{Reply}
 use Rattle.run_list.specs.MarkedSet.{answer_to}
 use Rattle.run_list.specs.declared.answers.Marked.{Marked}
-use Rattle.dccp_endpoint.specs.End.{EndState}
+use Rattle.dccp_endpoint.specs.End.{EndState, is_phase_of}
 use Rattle.dccp_endpoint.specs.Heeding.{DueConfirm}
 use Rattle.dccp_endpoint.specs.Incoming.{Incoming}
 use Rattle.dccp_endpoint.specs.Receiving.{accounted, delivering, moved_to, moves, replies}
 use Rattle.dccp_endpoint.specs.Reporting.{counts_data, delivers, looked_up, looks_up, marks}
 use Rattle.dccp_states.specs.declared.outcome.Outcome.TheVariants.{Took}
+use Rattle.dccp_endpoint.proofs.Phases.{after_fits}
 use Rattle.dccp_endpoint.proofs.connection.Connection.process.Goals as goal
+
+-- the table leads to a phase of the role
+pub move_to-requires : goal.move_to-requires
+move_to-requires c =
+    subst (λ (e : EndState). is_phase_of c.after-phase.result.0 e.config.role ≡ true) c.self.view_is
+    (subst (λ (row : Phase × Reply). is_phase_of row.0 c.self.inside.config.role ≡ true) (sym c.after-phase.ensures)
+    (after_fits c.self.inside.phase c.packet.inside.kind c.self.inside.config.role c.self.invariant.phase_fits))
 
 pub returns : goal.returns
 returns c =

@@ -1,15 +1,21 @@
-use Rattle.std.proofs.Common.{◌≡◌, ◌∙◌, ◌++◌, ℕ, Bool, List, [], Option, Some, ap, sym}
+use Rattle.std.proofs.Common.{◌≡◌, ◌∙◌, ◌++◌, ℕ, Bool, List, [], Option, Some, ap, arith, length, sym, true}
 use Rattle.dccp_options.specs.Written.{Item, written}
 use Rattle.dccp_packets.specs.Outgoing.{Outgoing}
 use Rattle.dccp_packets.specs.declared.header.Kind.TheVariants as kind
 use Rattle.dccp_packets.specs.declared.header.Number.TheVariants.{Long}
+use Rattle.dccp_packets.specs.declared.header.PacketType.TheVariants as types
 use Rattle.dccp_endpoint.specs.Drafts.{framed, sent_as}
 use Rattle.dccp_endpoint.specs.End.{EndState}
 use Rattle.dccp_endpoint.specs.Reporting.{sends_vectors, vector_items}
 use Rattle.dccp_endpoint.specs.Steps.{next_number}
+use Rattle.dccp_endpoint.proofs.Frames.{fit_beside}
 use Rattle.dccp_endpoint.proofs.Short.{short_data_ack}
 use Rattle.dccp_endpoint.proofs.Writing.{written_alone}
 use Rattle.dccp_endpoint.proofs.connection.Connection.send_data_ack.Goals as goal
+
+-- the options fit into the header
+pub send_with-requires-clause-area : goal.send_with-requires-clause-area
+send_with-requires-clause-area c = fit_beside true types.DataAck c.report-whole.new.area (omega (arith, c.report-whole.ensures.short, ap length c.new-area.ensures))
 
 pub returns-clause-sent : goal.returns-clause-sent
 returns-clause-sent c =

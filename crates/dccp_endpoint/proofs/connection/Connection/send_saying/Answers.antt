@@ -1,12 +1,18 @@
-use Rattle.std.proofs.Common.{◌∙◌, ◌++◌, ℕ, Bool, false, List, [], Some, ap, sym}
+use Rattle.std.proofs.Common.{◌∙◌, ◌++◌, ℕ, Bool, false, List, [], Some, ap, arith, length, sym, true}
 use Rattle.dccp_options.specs.Written.{written}
+use Rattle.dccp_packets.specs.Grammar.{packet_type}
 use Rattle.dccp_endpoint.specs.Drafts.{Draft, framed, sent_as, sent_of}
 use Rattle.dccp_endpoint.specs.End.{EndState}
 use Rattle.dccp_endpoint.specs.Speaking.{change_items, confirm_items, saying}
 use Rattle.dccp_endpoint.specs.Steps.{next_number}
+use Rattle.dccp_endpoint.proofs.Frames.{fit_beside}
 use Rattle.dccp_endpoint.proofs.Short.{stays_long}
 use Rattle.dccp_endpoint.proofs.Writing.{written_both}
 use Rattle.dccp_endpoint.proofs.connection.Connection.send_saying.Goals as goal
+
+-- the options fit into the header
+pub send_with-requires-clause-area : goal.send_with-requires-clause-area
+send_with-requires-clause-area c = fit_beside true (packet_type c.args.kind) c.put_changes.new.area (omega (arith, c.put_changes.ensures.short, c.put_confirms.ensures.long, ap length c.new-area.ensures, c.requires.room, c.requires.rows))
 
 pub returns-clause-sent : goal.returns-clause-sent
 returns-clause-sent c =
