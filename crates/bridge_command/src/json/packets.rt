@@ -3,12 +3,11 @@ ghost use Rattle.std.specs.List.{list_all};
 ghost use Rattle.std.specs.Net.Text.{ip_text};
 ghost use Rattle.std.specs.Prelude.{◌≡◌, ◌≤◌, length, not, true, OnOk};
 ghost use Rattle.dccp_packets.specs.Grammar.{is_long};
-ghost use Rattle.dccp_packets.specs.declared.header.Number.TheVariants.{Long};
 ghost use Rattle.packet_show.specs.Lines.{parts_by};
 ghost use Rattle.packet_show.specs.Network.{carried_by};
 ghost use Rattle.tool_text.specs.Lines.{is_text};
 ghost use Rattle.bridge_command.specs.Members.{members_seen, with_text_named};
-ghost use Rattle.bridge_command.specs.Objects.{destination_text, ecn_of, hops_of, number_written, source_text, verdict_name, with_ack, with_addresses, with_code, with_header_fields, with_ip, with_kind, with_options, with_packet_fields, with_payload, with_ports, with_rest, with_service};
+ghost use Rattle.bridge_command.specs.Objects.{destination_text, ecn_of, hops_of, number_written, source_text, verdict_name, with_ack, with_addresses, with_code, with_header_fields, with_ip, with_kind, with_options, with_packet_fields, with_payload, with_ports, with_rest};
 
 use crate::json::objects::{Items, Object};
 use crate::json::options::push_options;
@@ -16,7 +15,7 @@ use crate::json::skips::byte_at;
 use dccp_packets::{Header, Kind, Number, Packet};
 use dccp_sum::{Pseudo, check};
 use packet_show::{Datagram, sum_name, type_name};
-use seq_circle::{NoMemory, Seq48};
+use seq_circle::NoMemory;
 use std::net::{IpAddr, Ipv4Addr, Ipv6Addr};
 
 // The address that a packet goes from.
@@ -129,18 +128,6 @@ fn put_ack(object: &mut Object, ack: Number) -> Result<(), NoMemory>
     object.number("acknowledgement", number_written(ack))
 }
 
-fn put_long_ack(object: &mut Object, ack: Seq48) -> Result<(), NoMemory>
-    ensures { OnOk result (members_seen object.new ≡ with_ack (Long ack) (members_seen object.old)) }
-{
-    put_ack(object, Number::Long(ack))
-}
-
-fn put_service(object: &mut Object, service: u32) -> Result<(), NoMemory>
-    ensures { OnOk result (members_seen object.new ≡ with_service service (members_seen object.old)) }
-{
-    object.number("service_code", u64::from(service))
-}
-
 // Puts the Reset Code, and Data 1 to 3.
 fn put_code(object: &mut Object, code: u8, detail: [u8; 3]) -> Result<(), NoMemory>
     ensures { OnOk result (members_seen object.new ≡ with_code code detail (members_seen object.old)) }
@@ -156,22 +143,19 @@ fn put_kind(object: &mut Object, kind: &Kind) -> Result<(), NoMemory>
     ensures { OnOk result (members_seen object.new ≡ with_kind kind.now (members_seen object.old)) }
 {
     match *kind {
-        Kind::Request { service } => put_service(object, service),
+        Kind::Request { service } => object.number("service_code", u64::from(service)),
         Kind::Response { ack, service } => {
-            put_long_ack(object, ack)?;
-            put_service(object, service)
+            put_ack(object, Number::Long(ack))?;
+            object.number("service_code", u64::from(service))
         }
         Kind::Data => Ok(()),
-        Kind::Ack { ack } => put_ack(object, ack),
-        Kind::DataAck { ack } => put_ack(object, ack),
-        Kind::CloseReq { ack } => put_long_ack(object, ack),
-        Kind::Close { ack } => put_long_ack(object, ack),
+        Kind::Ack { ack } | Kind::DataAck { ack } => put_ack(object, ack),
+        Kind::CloseReq { ack } | Kind::Close { ack } | Kind::Sync { ack } | Kind::SyncAck { ack } =>
+            put_ack(object, Number::Long(ack)),
         Kind::Reset { ack, code, detail } => {
-            put_long_ack(object, ack)?;
+            put_ack(object, Number::Long(ack))?;
             put_code(object, code, detail)
         }
-        Kind::Sync { ack } => put_long_ack(object, ack),
-        Kind::SyncAck { ack } => put_long_ack(object, ack),
     }
 }
 
