@@ -11,14 +11,8 @@ use Rattle.dccp_packets.specs.declared.header.PacketType.{PacketType}
 use Rattle.dccp_packets.specs.declared.reading.Malformed.{Malformed}
 use Rattle.dccp_packets.specs.declared.reading.Malformed.TheVariants as malformed
 use Rattle.dccp_sum.specs.declared.packet_sum.SumFault.{SumFault}
-use Rattle.bridge_records.specs.declared.pieces.fault.PieceFault.{PieceFault}
-use Rattle.bridge_records.specs.declared.pieces.fault.PieceFault.TheVariants as why
 use Rattle.packet_show.specs.Names.{sum_name, type_name}
 use Rattle.bridge_command.proofs.Texts.{IsText, type-text, verdict-text}
-use Rattle.bridge_command.specs.Skips.{skip_name}
-use Rattle.bridge_command.specs.Unwrapping.{piece_fault_name}
-use Rattle.bridge_command.specs.declared.json.skips.Skip.{Skip}
-use Rattle.bridge_command.specs.declared.json.skips.Skip.TheVariants as skip
 
 text-ascii : (text : List ℕ) → IsText text → IsAscii text
 text-ascii [] are i = omega arith
@@ -43,20 +37,3 @@ malformed_is_text malformed.ReservedType = refl
 malformed_is_text malformed.OffsetSmall = refl
 malformed_is_text malformed.OffsetLarge = refl
 malformed_is_text malformed.ShortNumbers = refl
-
-pub fault_is_text : (fault : PieceFault) → IsText (piece_fault_name fault)
-fault_is_text why.BadMagic = refl
-fault_is_text why.BadVersion = refl
-fault_is_text why.BadLink = refl
-fault_is_text why.CutShort = refl
-fault_is_text why.TooLong = refl
-fault_is_text why.BadBlock = refl
-fault_is_text why.TooLarge = refl
-
-pub skip_is_text : (why : Skip) → IsText (skip_name why)
-skip_is_text skip.NotIp = refl
-skip_is_text skip.ShortHeader = refl
-skip_is_text skip.BadHeader = refl
-skip_is_text skip.NotDccp = refl
-skip_is_text skip.Fragment = refl
-skip_is_text skip.CutShort = refl

@@ -1,25 +1,15 @@
 -- The object of a seed has only a text and whole numbers.
-use Rattle.std.proofs.Common.{◌≡◌, refl, Bool, true, false, nat_lt, ◌||◌, ◌==◌, List, codes, ℕ}
-use Rattle.std.specs.Prelude.{if◌then◌else◌}
+use Rattle.std.proofs.Common.{◌≡◌, refl, false, List, codes, ℕ}
 use Rattle.serde_json.specs.Data.{Members, no_members, number, string, unsigned}
 use Rattle.serde_json.specs.Written.{members_have_float}
 use Rattle.fault_campaign.specs.declared.report.Report.{Report}
 use Rattle.bridge_command.specs.Members.{with_number_named}
 use Rattle.bridge_command.specs.SeedLines.{seed_members, seed_state, with_outcomes, with_frames_counted, with_state}
-use Rattle.bridge_command.proofs.Texts.{IsText}
 use Rattle.bridge_command.proofs.WholeNumbers.{plain_put}
 
 -- no member is a float
 abbrev HasNoFloat : Members → Type 0
 HasNoFloat ms = members_have_float ms ≡ false
-
-state-text : (reset all : Bool) → IsText (if reset then codes "reset" else if all then codes "settled" else codes "unsettled")
-state-text true all = refl
-state-text false true = refl
-state-text false false = refl
-
-pub state_is_text : (r : Report) → IsText (seed_state r)
-state_is_text r = state-text (nat_lt 0 r.was_reset || nat_lt 0 r.sent_reset) (r.settled == 18)
 
 whole : (name : List ℕ) (n : ℕ) (ms : Members) → HasNoFloat ms → HasNoFloat (with_number_named name n ms)
 whole name n ms plain = plain_put name (number (unsigned n)) ms refl plain

@@ -107,7 +107,7 @@ fn put_capture_line(text: &mut Vec<u8>, refusal: &CaptureRefusal) -> Result<(), 
     ensures { OnOk result (text.new.items ≡ text.old.items ++ spec.capture_line refusal.now) }
 {
     put(text, b"capture ")?;
-    put(text, fault_name(refusal.fault))?;
+    put(text, fault_name(refusal.fault).as_bytes())?;
     put(text, b" after ")?;
     put_counted(text, b"record ", refusal.records)?;
     put(text, b"\n")

@@ -80,11 +80,10 @@ fn put_stamp(object: &mut Object, item: &Record<'_>) -> Result<(), NoMemory>
     object.number("captured", item.bytes.len() as u64)
 }
 
-#[tactic(auto, using(crate::proofs::ObjectTexts::skip_is_text))]
 fn put_skip(object: &mut Object, skip: Skip) -> Result<(), NoMemory>
     ensures { OnOk result (members_seen object.new ≡ with_text_named (codes "skipped") (skip_name skip) (members_seen object.old)) }
 {
-    object.text("skipped", skip_name(skip))
+    object.string("skipped", skip_name(skip))
 }
 
 // Puts why bytes are no packet.

@@ -99,15 +99,15 @@ pub(crate) fn ip_skip(bytes: &[u8]) -> Skip
 }
 
 /// The word for why.
-pub(crate) fn skip_name(skip: Skip) -> &'static [u8]
+pub(crate) fn skip_name(skip: Skip) -> &'static str
     ensures { result.now ≡ skip_name skip }
 {
     match skip {
-        Skip::NotIp => b"NotIp",
-        Skip::ShortHeader => b"ShortHeader",
-        Skip::BadHeader => b"BadHeader",
-        Skip::NotDccp => b"NotDccp",
-        Skip::Fragment => b"Fragment",
-        Skip::CutShort => b"CutShort",
+        Skip::NotIp => "NotIp",
+        Skip::ShortHeader => "ShortHeader",
+        Skip::BadHeader => "BadHeader",
+        Skip::NotDccp => "NotDccp",
+        Skip::Fragment => "Fragment",
+        Skip::CutShort => "CutShort",
     }
 }

@@ -16,13 +16,13 @@ use seq_circle::NoMemory;
 use std::alloc::Global;
 
 // The object of a fault, after this many records.
-#[tactic(auto, unfolding(crate::specs::Telling::fault_members), using(crate::proofs::ObjectTexts::fault_is_text))]
+#[tactic(auto, unfolding(crate::specs::Telling::fault_members))]
 fn fault_object(alloc: Global, records: u64, fault: PieceFault) -> Result<Object, NoMemory>
     ensures { IfOk result (λ o. members_seen o ≡ fault_members records fault) }
 {
     let mut object = Object::new(alloc);
     object.number("records", records)?;
-    object.text("fault", fault_name(fault))?;
+    object.string("fault", fault_name(fault))?;
     Ok(object)
 }
 

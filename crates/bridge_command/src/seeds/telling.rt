@@ -16,16 +16,16 @@ use tool_text::JobEnd;
 // The number of settled features if all are settled.
 const FEATURES: u64 = 18;
 
-fn seed_state(report: &Report) -> &'static [u8]
+fn seed_state(report: &Report) -> &'static str
     ensures { result.now ≡ seed_state report.now }
 {
     if 0 < report.was_reset || 0 < report.sent_reset {
-        return b"reset";
+        return "reset";
     }
     if report.settled == FEATURES {
-        return b"settled";
+        return "settled";
     }
-    b"unsettled"
+    "unsettled"
 }
 
 impl Object {
@@ -52,13 +52,12 @@ impl Object {
     }
 
     // Puts the calls that were refused, the features that are settled, and the result of the run.
-    #[tactic(auto, using(crate::proofs::SeedObjects::state_is_text))]
     fn state(&mut self, report: &Report) -> Result<(), NoMemory>
         ensures { OnOk result (members_seen self.new ≡ with_state report.now (members_seen self.old)) }
     {
         self.number("refused", report.refused)?;
         self.number("settled", report.settled)?;
-        self.text("state", seed_state(report))
+        self.string("state", seed_state(report))
     }
 }
 

@@ -81,17 +81,17 @@ fn put_unwrapped(alloc: Global, text: &mut Vec<u8>, item: &Record<'_>) -> Result
 }
 
 /// Why a capture is refused, as a word (own).
-pub(crate) fn fault_name(fault: PieceFault) -> &'static [u8]
+pub(crate) fn fault_name(fault: PieceFault) -> &'static str
     ensures { result.now ≡ piece_fault_name fault }
 {
     match fault {
-        PieceFault::BadMagic => b"BadMagic",
-        PieceFault::BadVersion => b"BadVersion",
-        PieceFault::BadLink => b"BadLink",
-        PieceFault::CutShort => b"CutShort",
-        PieceFault::TooLong => b"RecordTooLong",
-        PieceFault::BadBlock => b"BadBlock",
-        PieceFault::TooLarge => b"TooLarge",
+        PieceFault::BadMagic => "BadMagic",
+        PieceFault::BadVersion => "BadVersion",
+        PieceFault::BadLink => "BadLink",
+        PieceFault::CutShort => "CutShort",
+        PieceFault::TooLong => "RecordTooLong",
+        PieceFault::BadBlock => "BadBlock",
+        PieceFault::TooLarge => "TooLarge",
     }
 }
 
