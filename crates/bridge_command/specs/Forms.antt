@@ -2,9 +2,6 @@
 use Rattle.std.specs.Prelude.{◌≡◌, ℕ, Bool, true, false, List, Option, Some, None, String}
 use Rattle.std.specs.declared.alloc.Global.{Global}
 use Rattle.bridge_records.specs.Recording.{capture_refusal, capture_skips}
-use Rattle.bridge_records.specs.declared.recording.CaptureRefusal.{CaptureRefusal}
-use Rattle.bridge_records.specs.declared.skips.Skips.{Skips}
-use Rattle.tool_text.specs.declared.lines.refusals.LineRefusal.{LineRefusal}
 use Rattle.bridge_command.specs.Capturing.{frames_capture, transcript_accepted, transcript_refusal, transcript_refused}
 use Rattle.bridge_command.specs.Complaints.{capture_said, line_said}
 use Rattle.bridge_command.specs.declared.complaints.Remarks.{Remarks}
@@ -20,7 +17,6 @@ use Rattle.bridge_command.specs.Unwrapping.{is_unwrapped_faulty, unwrapped_piece
 use Rattle.bridge_command.specs.Words.{asked_form}
 use Rattle.bridge_command.specs.declared.words.BridgeForm.{BridgeForm}
 use Rattle.bridge_command.specs.declared.words.BridgeForm.TheVariants as form
-use Rattle.bridge_command.specs.declared.words.Picture.{Picture}
 use Rattle.bridge_command.specs.declared.words.Picture.TheVariants as pictures
 
 -- Only `seed` and `seeds` read no input.
@@ -28,36 +24,6 @@ abbrev pub has_input : BridgeForm → Bool
 has_input (form.Seed run) = false
 has_input (form.Seeds range) = false
 has_input _ = true
-
--- the text of a picture of lines: a ladder of a transcript, or the windows of a schedule
-abbrev pub picture_text : Picture → List ℕ → List ℕ
-picture_text pictures.Ladder bytes = ladder_text bytes
-picture_text pictures.Windows bytes = windows_text bytes
-
--- a picture of lines refuses a line
-abbrev pub picture_refused : Picture → List ℕ → Bool
-picture_refused pictures.Ladder bytes = ladder_refused bytes
-picture_refused pictures.Windows bytes = windows_refused bytes
-
--- how many bytes the accepted lines of a picture have
-abbrev pub picture_accepted : Picture → List ℕ → ℕ
-picture_accepted pictures.Ladder bytes = ladder_accepted bytes
-picture_accepted pictures.Windows bytes = windows_accepted bytes
-
--- the text of a picture of a capture's flow
-abbrev pub flow_picture_text : Picture → ℕ → List ℕ → List ℕ
-flow_picture_text pictures.Ladder flow bytes = flow_ladder_text flow bytes
-flow_picture_text pictures.Windows flow bytes = flow_windows_text flow bytes
-
--- the capture has a fault
-abbrev pub is_flow_picture_faulty : Picture → ℕ → List ℕ → Bool
-is_flow_picture_faulty pictures.Ladder flow bytes = is_flow_ladder_faulty flow bytes
-is_flow_picture_faulty pictures.Windows flow bytes = is_flow_windows_faulty flow bytes
-
--- how many bytes of the capture come before the fault
-abbrev pub flow_picture_accepted : Picture → ℕ → List ℕ → ℕ
-flow_picture_accepted pictures.Ladder flow bytes = (flow_ladder_pieces flow bytes).accepted
-flow_picture_accepted pictures.Windows flow bytes = (flow_windows_pieces flow bytes).accepted
 
 -- What a form writes for the bytes that it reads, when all is written: a capture of the frames that they list, a capture of raw IP, the schedule
 -- of a seed, an object for each seed, a flow's packets as lines of `replay`, an object for each record, and a picture of lines or of a flow.
@@ -68,8 +34,10 @@ bridge_text (form.Seed run) bytes = seed_text run.seed run.events
 bridge_text (form.Seeds range) bytes = seeds_text range
 bridge_text (form.Frames asked) bytes = frames_text asked.flow asked.side bytes
 bridge_text (form.Json payload) bytes = json_text payload bytes
-bridge_text (form.Picture picture) bytes = picture_text picture bytes
-bridge_text (form.FlowPicture picture flow) bytes = flow_picture_text picture flow bytes
+bridge_text (form.Picture pictures.Ladder) bytes = ladder_text bytes
+bridge_text (form.Picture pictures.Windows) bytes = windows_text bytes
+bridge_text (form.FlowPicture pictures.Ladder flow) bytes = flow_ladder_text flow bytes
+bridge_text (form.FlowPicture pictures.Windows flow) bytes = flow_windows_text flow bytes
 
 -- Whether a form refuses these bytes: a line of them, or a capture for its fault. (`seed` and `seeds` read none; for them the rows here and
 -- below are those of an empty input.)
@@ -80,8 +48,10 @@ is_bridge_refused (form.Seed run) bytes = false
 is_bridge_refused (form.Seeds range) bytes = false
 is_bridge_refused (form.Frames asked) bytes = is_frames_faulty asked.flow asked.side bytes
 is_bridge_refused (form.Json payload) bytes = is_json_faulty payload bytes
-is_bridge_refused (form.Picture picture) bytes = picture_refused picture bytes
-is_bridge_refused (form.FlowPicture picture flow) bytes = is_flow_picture_faulty picture flow bytes
+is_bridge_refused (form.Picture pictures.Ladder) bytes = ladder_refused bytes
+is_bridge_refused (form.Picture pictures.Windows) bytes = windows_refused bytes
+is_bridge_refused (form.FlowPicture pictures.Ladder flow) bytes = is_flow_ladder_faulty flow bytes
+is_bridge_refused (form.FlowPicture pictures.Windows flow) bytes = is_flow_windows_faulty flow bytes
 
 -- How many of these bytes a form accepts: whole lines, or a capture's header and records, up to what it refuses.
 abbrev pub bridge_accepted : BridgeForm → List ℕ → ℕ
@@ -91,23 +61,10 @@ bridge_accepted (form.Seed run) bytes = 0
 bridge_accepted (form.Seeds range) bytes = 0
 bridge_accepted (form.Frames asked) bytes = (frames_pieces asked.flow asked.side bytes).accepted
 bridge_accepted (form.Json payload) bytes = (json_pieces payload bytes).accepted
-bridge_accepted (form.Picture picture) bytes = picture_accepted picture bytes
-bridge_accepted (form.FlowPicture picture flow) bytes = flow_picture_accepted picture flow bytes
-
--- why a picture of lines is refused, if it is
-abbrev pub picture_refusal : Picture → List ℕ → Option LineRefusal
-picture_refusal pictures.Ladder bytes = ladder_refusal bytes
-picture_refusal pictures.Windows bytes = windows_refusal bytes
-
--- why a picture of a capture's flow is refused, if it is
-abbrev pub flow_picture_refusal : Picture → ℕ → List ℕ → Option CaptureRefusal
-flow_picture_refusal pictures.Ladder flow bytes = capture_refusal (flow_ladder_pieces flow bytes)
-flow_picture_refusal pictures.Windows flow bytes = capture_refusal (flow_windows_pieces flow bytes)
-
--- what is skipped of the capture
-abbrev pub flow_picture_skips : Picture → ℕ → List ℕ → Skips
-flow_picture_skips pictures.Ladder flow bytes = capture_skips (flow_ladder_pieces flow bytes)
-flow_picture_skips pictures.Windows flow bytes = capture_skips (flow_windows_pieces flow bytes)
+bridge_accepted (form.Picture pictures.Ladder) bytes = ladder_accepted bytes
+bridge_accepted (form.Picture pictures.Windows) bytes = windows_accepted bytes
+bridge_accepted (form.FlowPicture pictures.Ladder flow) bytes = (flow_ladder_pieces flow bytes).accepted
+bridge_accepted (form.FlowPicture pictures.Windows flow) bytes = (flow_windows_pieces flow bytes).accepted
 
 -- What a form reports about these bytes besides its output: what is skipped of a capture, and why the bytes are refused, if they are: for a
 -- line, or for a fault of the capture.
@@ -119,8 +76,12 @@ bridge_said (form.Seeds range) bytes = line_said None
 bridge_said (form.Frames asked) bytes =
     capture_said (capture_refusal (frames_pieces asked.flow asked.side bytes)) (capture_skips (frames_pieces asked.flow asked.side bytes))
 bridge_said (form.Json payload) bytes = capture_said (capture_refusal (json_pieces payload bytes)) (capture_skips (json_pieces payload bytes))
-bridge_said (form.Picture picture) bytes = line_said (picture_refusal picture bytes)
-bridge_said (form.FlowPicture picture flow) bytes = capture_said (flow_picture_refusal picture flow bytes) (flow_picture_skips picture flow bytes)
+bridge_said (form.Picture pictures.Ladder) bytes = line_said (ladder_refusal bytes)
+bridge_said (form.Picture pictures.Windows) bytes = line_said (windows_refusal bytes)
+bridge_said (form.FlowPicture pictures.Ladder flow) bytes =
+    capture_said (capture_refusal (flow_ladder_pieces flow bytes)) (capture_skips (flow_ladder_pieces flow bytes))
+bridge_said (form.FlowPicture pictures.Windows flow) bytes =
+    capture_said (capture_refusal (flow_windows_pieces flow bytes)) (capture_skips (flow_windows_pieces flow bytes))
 
 -- How many bytes a form may have read after those that it accepts: two blocks of lines, or a block of a capture.
 abbrev pub bridge_reads_past : BridgeForm → ℕ

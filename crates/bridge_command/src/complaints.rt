@@ -5,11 +5,11 @@ ghost use Rattle.tool_text.specs.Ends.{IsWritten, SinkFails};
 ghost use Rattle.bridge_command.specs.Complaints as spec;
 
 use crate::unwrap::fault_name;
-use bridge_records::{CaptureRefusal, Skips, Tally};
+use bridge_records::{CaptureRefusal, RecordsEnd, Skips, Tally};
 use dccp_io::{Sink, write_all};
 use seq_circle::NoMemory;
 use std::alloc::Global;
-use tool_text::{JobEnd, LineRefusal, put, put_counted, put_refusal};
+use tool_text::{JobEnd, LineRefusal, LinesEnd, put, put_counted, put_refusal};
 
 /// Why the input of a form is refused.
 #[derive(Clone, Copy)]
@@ -56,23 +56,33 @@ fn capture_complaint(refusal: Option<CaptureRefusal>) -> Option<Complaint>
     }
 }
 
-/// What is reported about lines.
-pub(crate) fn line_said(refusal: Option<LineRefusal>) -> Remarks
-    ensures { result ≡ spec.line_said refusal }
-{
-    Remarks {
-        skips: Skips::none(),
-        complaint: line_complaint(refusal),
+impl FormEnd {
+    /// A form over lines ended.
+    pub(crate) fn of_lines(ended: LinesEnd) -> FormEnd
+        ensures end { result.end ≡ ended.end }
+        ensures said { result.said ≡ spec.line_said ended.refusal }
+    {
+        FormEnd {
+            end: ended.end,
+            said: Remarks {
+                skips: Skips::none(),
+                complaint: line_complaint(ended.refusal),
+            },
+        }
     }
-}
 
-/// What is reported about a capture.
-pub(crate) fn capture_said(refusal: Option<CaptureRefusal>, skips: Skips) -> Remarks
-    ensures { result ≡ spec.capture_said refusal skips }
-{
-    Remarks {
-        skips,
-        complaint: capture_complaint(refusal),
+    /// A form over the records of a capture ended.
+    pub(crate) fn of_records(ended: RecordsEnd) -> FormEnd
+        ensures end { result.end ≡ ended.end }
+        ensures said { result.said ≡ spec.capture_said ended.refusal ended.skips }
+    {
+        FormEnd {
+            end: ended.end,
+            said: Remarks {
+                skips: ended.skips,
+                complaint: capture_complaint(ended.refusal),
+            },
+        }
     }
 }
 

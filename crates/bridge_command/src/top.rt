@@ -1,13 +1,13 @@
 //! The second tool as one call: a form of its words over a source and a sink.
-ghost use Rattle.std.specs.Prelude.{◌≡◌, ◌⊎◌, ℕ, List, [], Some, None, false, true};
+ghost use Rattle.std.specs.Prelude.{◌≡◌, ◌⊎◌, [], Some, None, false, true};
 ghost use Rattle.dccp_io.specs.Counts.{Rose};
-ghost use Rattle.bridge_command.specs.Forms.{OnBridgeInput, OnBridgeRead, bridge_accepted, bridge_reads_past, bridge_said, bridge_text, flow_picture_accepted, flow_picture_refusal, flow_picture_skips, flow_picture_text, has_input, is_bridge_refused, is_flow_picture_faulty, picture_accepted, picture_refusal, picture_refused, picture_text};
+ghost use Rattle.bridge_command.specs.Forms.{OnBridgeInput, OnBridgeRead, bridge_accepted, bridge_reads_past, bridge_said, bridge_text, has_input, is_bridge_refused};
 ghost use Rattle.bridge_command.specs.Words.{IsBridgeFormWithinBounds, OnAsked, asked_form, bridge_usage, has_bridge_settings};
 ghost use Rattle.bridge_command.specs.Complaints.{OnAnswer, said_text};
-ghost use Rattle.tool_text.specs.Ends.{SinkFails, IsAnswered, IsWritten, OnJobEnd, Answers, StopsWithin, EndsForCause};
+ghost use Rattle.tool_text.specs.Ends.{SinkFails, IsWritten, OnJobEnd, Answers, StopsWithin, EndsForCause};
 
 use crate::capture::capture_frames;
-use crate::complaints::{FormEnd, capture_said, line_said, tell_said};
+use crate::complaints::{FormEnd, tell_said};
 use crate::frames::frame_flow;
 use crate::json::json_records;
 use crate::seed::tell_seed;
@@ -15,7 +15,6 @@ use crate::seeds::tell_seeds;
 use crate::unwrap::unwrap_capture;
 use crate::words::{BridgeForm, Picture, USAGE, form_of};
 use bridge_pictures::{ladder_of_flow, ladder_of_transcript, windows_of_flow, windows_of_schedule};
-use bridge_records::RecordsEnd;
 use dccp_io::{Sink, Source, write_all};
 use std::alloc::Global;
 use tool_text::{JobEnd, LinesEnd, Status};
@@ -119,98 +118,34 @@ fn perform<S: Source, K: Sink>(
     ensures cause { EndsForCause result.end (Rose (S.faults input.old) (S.faults input.new)) (SinkFails K.faults K.empty_takes output.old output.new) }
 {
     match form {
-        BridgeForm::Capture => {
-            let ended = capture_frames(alloc, input, output);
-            FormEnd {
-                end: ended.end,
-                said: line_said(ended.refusal),
-            }
+        BridgeForm::Capture => FormEnd::of_lines(capture_frames(alloc, input, output)),
+        BridgeForm::Picture(Picture::Ladder) => {
+            FormEnd::of_lines(ladder_of_transcript(alloc, input, output))
         }
-        BridgeForm::Picture(picture) => {
-            let ended = draw_lines(alloc, picture, input, output);
-            FormEnd {
-                end: ended.end,
-                said: line_said(ended.refusal),
-            }
+        BridgeForm::Picture(Picture::Windows) => {
+            FormEnd::of_lines(windows_of_schedule(alloc, input, output))
         }
-        BridgeForm::Seed(run) => FormEnd {
-            end: tell_seed(alloc, run.seed, run.events, output),
-            said: line_said(None),
-        },
-        BridgeForm::Seeds(range) => FormEnd {
-            end: tell_seeds(alloc, range, output),
-            said: line_said(None),
-        },
-        BridgeForm::Unwrap => {
-            let ended = unwrap_capture(alloc, input, output);
-            FormEnd {
-                end: ended.end,
-                said: capture_said(ended.refusal, ended.skips),
-            }
+        BridgeForm::Seed(run) => {
+            let end = tell_seed(alloc, run.seed, run.events, output);
+            FormEnd::of_lines(LinesEnd { end, refusal: None })
         }
+        BridgeForm::Seeds(range) => {
+            let end = tell_seeds(alloc, range, output);
+            FormEnd::of_lines(LinesEnd { end, refusal: None })
+        }
+        BridgeForm::Unwrap => FormEnd::of_records(unwrap_capture(alloc, input, output)),
         BridgeForm::Frames(asked) => {
-            let ended = frame_flow(alloc, asked.flow, asked.side, input, output);
-            FormEnd {
-                end: ended.end,
-                said: capture_said(ended.refusal, ended.skips),
-            }
+            FormEnd::of_records(frame_flow(alloc, asked.flow, asked.side, input, output))
         }
         BridgeForm::Json(payload) => {
-            let ended = json_records(alloc, payload, input, output);
-            FormEnd {
-                end: ended.end,
-                said: capture_said(ended.refusal, ended.skips),
-            }
+            FormEnd::of_records(json_records(alloc, payload, input, output))
         }
-        BridgeForm::FlowPicture(picture, flow) => {
-            let ended = draw_flow(alloc, picture, flow, input, output);
-            FormEnd {
-                end: ended.end,
-                said: capture_said(ended.refusal, ended.skips),
-            }
+        BridgeForm::FlowPicture(Picture::Ladder, flow) => {
+            FormEnd::of_records(ladder_of_flow(alloc, flow, input, output))
         }
-    }
-}
-
-// Draws a picture of the input's lines.
-fn draw_lines<S: Source, K: Sink>(
-    alloc: Global,
-    picture: Picture,
-    input: &mut S,
-    output: &mut K,
-) -> LinesEnd
-    ensures drawn { (bytes : List ℕ) → S.left input.old ≡ Some bytes
-        → Answers (picture_text picture bytes) (picture_refused picture bytes) result.end (S.left input.new) (K.taken output.old) (K.taken output.new) }
-    ensures past { (bytes : List ℕ) → S.left input.old ≡ Some bytes
-        → StopsWithin 16384 (picture_accepted picture bytes) bytes result.end (S.left input.new) }
-    ensures refused { (bytes : List ℕ) → S.left input.old ≡ Some bytes → IsAnswered result.end → result.refusal ≡ picture_refusal picture bytes }
-    ensures cause { EndsForCause result.end (Rose (S.faults input.old) (S.faults input.new)) (SinkFails K.faults K.empty_takes output.old output.new) }
-{
-    match picture {
-        Picture::Ladder => ladder_of_transcript(alloc, input, output),
-        Picture::Windows => windows_of_schedule(alloc, input, output),
-    }
-}
-
-// Draws a picture of a flow of a capture.
-fn draw_flow<S: Source, K: Sink>(
-    alloc: Global,
-    picture: Picture,
-    flow: u64,
-    input: &mut S,
-    output: &mut K,
-) -> RecordsEnd
-    ensures drawn { (bytes : List ℕ) → S.left input.old ≡ Some bytes
-        → Answers (flow_picture_text picture flow bytes) (is_flow_picture_faulty picture flow bytes) result.end (S.left input.new) (K.taken output.old) (K.taken output.new) }
-    ensures past { (bytes : List ℕ) → S.left input.old ≡ Some bytes
-        → StopsWithin 524288 (flow_picture_accepted picture flow bytes) bytes result.end (S.left input.new) }
-    ensures refused { (bytes : List ℕ) → S.left input.old ≡ Some bytes → IsAnswered result.end → result.refusal ≡ flow_picture_refusal picture flow bytes }
-    ensures skipped { (bytes : List ℕ) → S.left input.old ≡ Some bytes → IsAnswered result.end → result.skips ≡ flow_picture_skips picture flow bytes }
-    ensures cause { EndsForCause result.end (Rose (S.faults input.old) (S.faults input.new)) (SinkFails K.faults K.empty_takes output.old output.new) }
-{
-    match picture {
-        Picture::Ladder => ladder_of_flow(alloc, flow, input, output),
-        Picture::Windows => windows_of_flow(alloc, flow, input, output),
+        BridgeForm::FlowPicture(Picture::Windows, flow) => {
+            FormEnd::of_records(windows_of_flow(alloc, flow, input, output))
+        }
     }
 }
 
