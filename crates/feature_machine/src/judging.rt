@@ -71,7 +71,7 @@ impl Row {
     {
         match &self.active {
             Some(Wanted::List(list)) => list.bytes(),
-            _ => &[],
+            Some(Wanted::Number(_)) | None => &[],
         }
     }
 
@@ -89,7 +89,7 @@ impl Row {
     {
         match &self.active {
             Some(Wanted::Number(number)) => *number == value,
-            _ => false,
+            Some(Wanted::List(_)) | None => false,
         }
     }
 
@@ -115,7 +115,7 @@ impl Row {
         if self.feature.is_server_priority() {
             return self.list_proposal(body);
         }
-        if self.place == Place::Here || body.len() != self.feature.width() {
+        if matches!(self.place, Place::Here) || body.len() != self.feature.width() {
             return Proposal::Invalid;
         }
         let value = number_of_bytes(self.feature, body);
@@ -207,7 +207,7 @@ impl Row {
     {
         match (&self.opened, ack) {
             (Some(opened), Some(ack)) => !ack.before(*opened),
-            _ => false,
+            (None, _) | (Some(_), None) => false,
         }
     }
 }

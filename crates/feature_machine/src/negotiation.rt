@@ -306,7 +306,7 @@ impl Negotiation {
         ensures opening { result ≡ is_opening (stepped self.old feature place (Offers confirmed)).answer }
         ensures others { RestStays self.old self.new feature place }
     {
-        if self.offer(feature, place) == Offer::Nothing {
+        if matches!(self.offer(feature, place), Offer::Nothing) {
             return false;
         }
         let mut row = self.row(feature, place);
@@ -322,7 +322,7 @@ impl Negotiation {
         ensures { result ≡ is_next_mandatory (row_at self.now feature place).stand (row_at self.now feature place) }
     {
         let row = self.row(feature, place);
-        row.stand == Stand::Changing && row.mandatory
+        matches!(row.stand, Stand::Changing) && row.mandatory
     }
 
     /// A packet with the Change of a due row, in CHANGING or UNSTABLE, goes out under this number. An UNSTABLE row's

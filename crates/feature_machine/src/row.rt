@@ -128,19 +128,20 @@ impl Row {
                     RowReply::Confirm(ArrayVec::new())
                 }
             }
-            (_, Stand::Unstable) => RowReply::Ignored,
-            (Proposal::Shared(value), _) => {
+            (Proposal::Shared(_) | Proposal::Unshared | Proposal::Told(_), Stand::Unstable) =>
+                RowReply::Ignored,
+            (Proposal::Shared(value), Stand::Stable | Stand::Changing) => {
                 self.value = u64::from(value);
                 RowReply::Confirm(self.confirm_body())
             }
-            (Proposal::Unshared, _) => {
+            (Proposal::Unshared, Stand::Stable | Stand::Changing) => {
                 if mandatory {
                     RowReply::Fatal
                 } else {
                     RowReply::Confirm(self.confirm_body())
                 }
             }
-            (Proposal::Told(value), _) => {
+            (Proposal::Told(value), Stand::Stable | Stand::Changing) => {
                 self.value = value;
                 RowReply::Confirm(self.confirm_body())
             }
@@ -161,7 +162,7 @@ impl Row {
         ensures row { self.new ≡ (row_step self.old (Confirm body.now ack.now)).row }
         ensures settling { result ≡ settling_of (row_step self.old (Confirm body.now ack.now)).answer }
     {
-        if self.stand != Stand::Changing {
+        if !matches!(self.stand, Stand::Changing) {
             return Settling::Ignored;
         }
         match self.confirmation(body, ack) {
@@ -186,7 +187,7 @@ impl Row {
         ensures row { self.new ≡ (row_step self.old (Prefers wish)).row }
         ensures opening { result ≡ opening_of (row_step self.old (Prefers wish)).answer }
     {
-        if self.stand == Stand::Stable {
+        if matches!(self.stand, Stand::Stable) {
             self.stand = Stand::Changing;
             self.active = Some(wish);
             self.opened = None;
@@ -208,12 +209,12 @@ impl Row {
     {
         let offer = self.offer;
         self.offer = Offer::Nothing;
-        if offer == Offer::Nothing || confirmed {
+        if matches!(offer, Offer::Nothing) || confirmed {
             return false;
         }
         self.stand = Stand::Changing;
         self.opened = None;
-        self.mandatory = offer == Offer::Mandatory;
+        self.mandatory = matches!(offer, Offer::Mandatory);
         true
     }
 
