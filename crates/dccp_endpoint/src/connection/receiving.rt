@@ -280,7 +280,7 @@ impl Connection {
         ensures config { self.new.config ≡ self.old.config }
         ensures rows { self.new.rows ≡ self.old.rows }
     {
-        let acknowledges = self.acknowledges_in_window(packet);
+        let acknowledges = self.marks.acknowledges(packet.ack);
         match packet.kind {
             PacketType::Reset if acknowledges => Ok(()),
             PacketType::Reset => Err(Exit::Drop(Why::StrayReset)),
@@ -300,13 +300,6 @@ impl Connection {
                 Ok(())
             }
         }
-    }
-
-    // Whether the acknowledgement number, if there is one, lies in the window of what was sent.
-    fn acknowledges_in_window(&self, packet: &IncomingPacket<'_>) -> bool
-        ensures { result ≡ acknowledges_in_window self.now packet.now }
-    {
-        self.marks.acknowledges(packet.ack)
     }
 
     // Steps 5 and 6: a packet with valid numbers raises the greatest numbers received, unless it is a Reset.

@@ -68,7 +68,7 @@ fn put_options(area: &mut OptWriter, bytes: &[u8])
 }
 
 impl Connection {
-    ghost use Rattle.std.specs.Prelude.{◌+◌, ◌++◌, [], List, Ok, true, false, None, Some, if◌then◌else◌};
+    ghost use Rattle.std.specs.Prelude.{◌+◌, ◌++◌, [], Ok, true, false, None, Some, if◌then◌else◌};
     ghost use Rattle.ack_vectors.specs.Vector.{is_whole_under};
     ghost use Rattle.dccp_options.specs.Written.{written};
     ghost use Rattle.run_list.specs.MarkedSet.{has};
@@ -80,8 +80,6 @@ impl Connection {
     ghost use Rattle.dccp_endpoint.specs.Calling.{sends_data};
     ghost use Rattle.dccp_packets.specs.declared.header.Kind.TheVariants as kind;
     ghost use Rattle.dccp_packets.specs.declared.header.Number.TheVariants.{Long};
-    ghost use Rattle.dccp_endpoint.specs.Heeding.{DueConfirm};
-    ghost use Rattle.dccp_packets.specs.declared.header.Kind.{Kind};
     ghost use Rattle.dccp_endpoint.specs.Speaking.{HaveRoom, AreChanging, AreDue, asking, asking_frame, asks, confirming, offers, saying};
     ghost use Rattle.dccp_endpoint.specs.Steps.{next_frame, next_number, with_next_number};
 
@@ -347,17 +345,6 @@ impl Connection {
         fit(&mut self.marks, &self.rows);
     }
 
-    // Whether no offer is left and no row asks, as is usual: then a packet says no more than its Confirms.
-    fn asks_nothing(&self) -> bool
-        ensures stays { result ≡ true → (confirms : List DueConfirm)
-            → asks (offers self.now confirms) (asking (offers self.now confirms).rows confirms) ≡ self.now }
-        ensures said { result ≡ true → (kind : Kind) (confirms : List DueConfirm)
-            → asking_frame (offers self.now confirms) kind confirms (asking (offers self.now confirms).rows confirms)
-            ≡ next_frame self.now (confirming kind confirms) }
-    {
-        self.rows().is_quiet()
-    }
-
     // Makes all offers, and then sends a packet with these Confirms, and with the Changes of all rows that ask and have
     // no Confirm in it.
     pub(crate) fn send_offering(&mut self, kind: Kind, confirms: &[DueConfirm], out: &mut Outbox)
@@ -367,7 +354,8 @@ impl Connection {
         ensures sent { out.new ≡ Some (asking_frame (offers self.old confirms.now) kind confirms.now
             (asking (offers self.old confirms.now).rows confirms.now)) }
     {
-        if self.asks_nothing() {
+        // As is usual: no offer is left and no row asks.
+        if self.rows().is_quiet() {
             return self.send_confirming(kind, confirms, out);
         }
         self.offer(confirms);
