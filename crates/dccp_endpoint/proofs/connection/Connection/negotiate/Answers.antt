@@ -1,4 +1,4 @@
-use Rattle.std.proofs.Common.{◌∙◌, ◌&&◌, List, Result, ap, subst, sym}
+use Rattle.std.proofs.Common.{◌∙◌, ◌&&◌, List, Result, ap, subst, sym, rules}
 use Rattle.feature_machine.specs.Negotiating.{AreRowsOf}
 use Rattle.feature_machine.specs.declared.row.Row.{Row}
 use Rattle.feature_machine.specs.declared.stands.Role2.{Role2}
@@ -40,6 +40,9 @@ returns-in-Ok g c =
     ∙ ap (λ (new : List Row). after_calls g.C.Congestion.control c.args.congestion.now (calls_for a e.rows new)) c.rows-in-Ok-2.ensures)
     ∙ sym (ap (λ (r : Result ReadingState Fault). with_control g.C.Congestion.control c.args.congestion.now (heeded e a r))
     (sym c.read_options.ensures ∙ ap (heeding_or h) c.in-Ok.is))
+
+pub returns-in-Err : goal.returns-in-Err
+returns-in-Err g c = search rules
 
 pub process-requires-clause-room : goal.process-requires-clause-room
 process-requires-clause-room g c =
