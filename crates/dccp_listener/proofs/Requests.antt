@@ -15,7 +15,9 @@ use Rattle.dccp_endpoint.specs.Incoming.{incoming}
 use Rattle.dccp_endpoint.specs.Receiving.{by_ports, by_sum, checks_header, is_of_connection, read_number, received, receives, takes, with_own_number, with_packet}
 use Rattle.dccp_states.specs.declared.outcome.Why.{Why}
 use Rattle.dccp_endpoint.specs.Strangers.{stays_in}
-use Rattle.dccp_listener.specs.Calls.{BusyAnswersRequests, IsRequest, busy_frame, busy_reply}
+use Rattle.dccp_listener.specs.Calls.{BusyAnswersRequests, IsRequest, busy_frame, reset_by}
+use Rattle.dccp_packets.specs.ResetCodes.{number_of_code}
+use Rattle.dccp_packets.specs.declared.reset_code.ResetCode.TheVariants as codes
 use Rattle.dccp_listener.specs.Chain.{config_for}
 use Rattle.dccp_listener.specs.Peers.{FlowEnd}
 use Rattle.dccp_listener.specs.declared.config.ListenConfig.{ListenConfig}
@@ -86,4 +88,4 @@ pub busy_answers_requests : BusyAnswersRequests
 busy_answers_requests l peer iss bytes busy =
     let live = stays-if _ _ busy.would_stay in
     let request = opened-by-request l.config peer iss bytes bytes live in
-    (request, ap (busy_frame (config_for l.config peer iss bytes)) request.is_packet ∙ ap (busy_reply (config_for l.config peer iss bytes)) request.is_long)
+    (request, ap (busy_frame (config_for l.config peer iss bytes)) request.is_packet ∙ ap (reset_by (number_of_code codes.TooBusy) (config_for l.config peer iss bytes)) request.is_long)

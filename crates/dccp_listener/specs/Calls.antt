@@ -39,20 +39,24 @@ pub record OpensFlow (l : ListenerState) (peer : Peer) (deed : Deed) : Type 0 wh
   pub has_room : length l.flows < l.config.most
   pub would_stay : IsSome (chain_step l.config peer None deed).after
 
--- The Reset with the code Too Busy (RFC 4340, section 5.6), sent without a connection: its number is 0, and it
--- acknowledges the packet with this number.
-abbrev pub busy_reset : Config → ℕ → Outgoing
-busy_reset config number = sent_of config false 0 (reset_of number (without_detail (number_of_code codes.TooBusy)))
+-- The Reset with this code (RFC 4340, section 5.6), sent without a connection: its number is 0, and it acknowledges the
+-- packet with this number.
+abbrev pub lone_reset : ℕ → Config → ℕ → Outgoing
+lone_reset code config number = sent_of config false 0 (reset_of number (without_detail code))
 
--- A Request has a long number (RFC 4340, section 5.1).
-abbrev pub busy_reply : Config → Number → Option Outgoing
-busy_reply config (Long number) = Some (busy_reset config number)
-busy_reply config (Short _) = None
+-- the same for a packet whose number is long, as that of each Request is (section 5.1)
+abbrev pub reset_by : ℕ → Config → Number → Option Outgoing
+reset_by code config (Long number) = Some (lone_reset code config number)
+reset_by code config (Short _) = None
+
+-- the same for what bytes are
+abbrev pub reset_for : ℕ → Config → Result Parts Malformed → Option Outgoing
+reset_for code config (Ok parts) = reset_by code config parts.header.number
+reset_for code config (Err _) = None
 
 -- What is sent to a peer whose packet finds the listener busy. That is a Request: bytes that are no packet do not.
 abbrev pub busy_frame : Config → Result Parts Malformed → Option Outgoing
-busy_frame config (Ok parts) = busy_reply config parts.header.number
-busy_frame config (Err _) = None
+busy_frame config read = reset_for (number_of_code codes.TooBusy) config read
 
 -- What `arrive` does, by its answer.
 abbrev pub Arrived : ListenerState → ListenerState → Peer → ℕ → List ℕ → Option Outgoing → Result Heard NoMemory → Type 0
@@ -81,4 +85,4 @@ abbrev pub BusyAnswersRequests : Type 0
 BusyAnswersRequests =
     (l : ListenerState) (peer : Peer) (iss : ℕ) (bytes : List ℕ) → IsBusy l peer (Arrives iss bytes)
     → (request : IsRequest bytes)
-    × (busy_frame (config_for l.config peer iss bytes) (decoded bytes) ≡ Some (busy_reset (config_for l.config peer iss bytes) request.number))
+    × (busy_frame (config_for l.config peer iss bytes) (decoded bytes) ≡ Some (lone_reset (number_of_code codes.TooBusy) (config_for l.config peer iss bytes) request.number))

@@ -1,5 +1,5 @@
 //! The configuration of a listener, and that of a peer's end.
-ghost use Rattle.std.specs.Prelude.{◌≡◌, Ok, length};
+ghost use Rattle.std.specs.Prelude.{◌≡◌, Ok};
 ghost use Rattle.dccp_endpoint.specs.Incoming.{parts_of_packet};
 ghost use Rattle.dccp_packets.specs.Grammar.{decoded};
 ghost use Rattle.dccp_listener.specs.Chain.{config_asked, config_for, requested, service_for};
@@ -25,8 +25,8 @@ pub struct ListenConfig {
     pub most: u16,
 }
 
-// The Service Code that a packet asks for.
-fn requested(kind: &Kind) -> Option<u32>
+/// The Service Code that a packet of this type asks for (RFC 4340, section 5.1).
+pub fn requested(kind: &Kind) -> Option<u32>
     ensures { result ≡ requested kind.now }
 {
     match *kind {

@@ -5,13 +5,11 @@ ghost use Rattle.dccp_endpoint.specs.Controlled.{begins};
 ghost use Rattle.dccp_endpoint.specs.Feeding.{receiving};
 ghost use Rattle.dccp_endpoint.specs.Incoming.{parts_of_packet};
 ghost use Rattle.dccp_packets.specs.Grammar.{decoded};
-ghost use Rattle.dccp_listener.specs.Calls.{busy_frame, busy_reply};
+ghost use Rattle.dccp_listener.specs.Calls.{reset_by, reset_for};
 
 use crate::answers::receive_packet;
 use ccid_two::Kinds;
-use dccp_endpoint::{
-    Config, Endpoint, Fault, NoMemory, Outbox, Outcome, ResetCode, Seq48, put_reset,
-};
+use dccp_endpoint::{Config, Endpoint, Fault, NoMemory, Outbox, Outcome, Seq48, put_reset};
 use dccp_packets::{Number, Packet};
 use std::alloc::Global;
 
@@ -35,41 +33,36 @@ pub(crate) fn greet(
     Ok((end, outcome))
 }
 
-/// Leaves the Reset in the Outbox that answers this Request with Too Busy: under the number 0, without a connection.
-/// Only the clauses look at its bytes.
-pub(crate) fn refuse(config: &Config, packet: &Packet<'_>, bytes: &[u8], out: &mut Outbox)
+/// Leaves the Reset with this code in the empty Outbox that refuses a packet: under the number 0, without a connection
+/// (RFC 4340, section 5.6). `packet` is what `decode` makes of `bytes`; only the clauses look at the bytes. Nothing goes
+/// out if its number is a short one.
+pub fn refuse_packet(config: &Config, packet: &Packet<'_>, bytes: &[u8], code: u8, out: &mut Outbox)
     requires empty { out.old ≡ None }
     requires read { decoded bytes.now ≡ Ok (parts_of_packet packet.now) }
-    ensures { out.new ≡ busy_frame config.now (decoded bytes.now) }
+    ensures { out.new ≡ reset_for code config.now (decoded bytes.now) }
 {
     let _ = bytes;
-    refuse_number(config, &packet.header.number, out);
+    refuse_number(config, &packet.header.number, code, out);
 }
 
-// The same by its number, which is a long one.
-fn refuse_number(config: &Config, number: &Number, out: &mut Outbox)
+// The same by its number.
+fn refuse_number(config: &Config, number: &Number, code: u8, out: &mut Outbox)
     requires { out.old ≡ None }
-    ensures { out.new ≡ busy_reply config.now number.now }
+    ensures { out.new ≡ reset_by code config.now number.now }
 {
     let fault = Fault {
-        code: ResetCode::TooBusy.number(),
+        code,
         first: 0,
         second: 0,
         third: 0,
     };
+    let Some(zero) = Seq48::new(0) else {
+        unreachable!();
+    };
     match *number {
         Number::Long(number) => {
-            let _ = put_reset(config, zero(), number, fault, out);
+            let _ = put_reset(config, zero, number, fault, out);
         }
         Number::Short(_) => {}
-    }
-}
-
-fn zero() -> Seq48
-    ensures { result ≡ 0 }
-{
-    match Seq48::new(0) {
-        Some(number) => number,
-        None => unreachable!(),
     }
 }

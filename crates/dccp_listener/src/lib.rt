@@ -17,7 +17,8 @@ mod meeting;
 mod peer;
 
 pub use crate::calls::{Act, Heard, NoFlow};
-pub use crate::config::{ListenConfig, config_for};
+pub use crate::config::{ListenConfig, config_for, requested};
+pub use crate::greeting::refuse_packet;
 pub use crate::laws::{
     busy_answers_requests, each_peer_has_its_own_chain, ends_of_peers_stand,
     peers_are_found_at_their_places, what_is_computed_is_a_run, what_is_greeted_is_opened,

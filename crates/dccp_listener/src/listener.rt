@@ -2,10 +2,13 @@
 ghost use Rattle.std.specs.Prelude.{◌≡◌};
 
 use crate::flows::BoxedEnd;
-use crate::meeting::{arrive, greet_alone, perform};
+use crate::meeting::{arrive, greet_packet, perform};
 use crate::{Act, Heard, ListenConfig, NoFlow, Peer};
 use ccid_two::Kinds;
-use dccp_endpoint::{Endpoint, Feature, NoMemory, Outbox, Outcome, Place, Seen, Seq48, UserCall};
+use dccp_endpoint::{
+    Endpoint, Feature, NoMemory, Outbox, Outcome, Place, Seen, Seq48, UserCall, Why,
+};
+use dccp_packets::decode;
 use std::alloc::Global;
 use std::collections::BTreeMap;
 use std::marker::Model;
@@ -147,6 +150,7 @@ impl Listener {
     /// How a fresh end answers a datagram of a peer, at most 2,044 bytes. The end hears the datagram and goes, so
     /// nothing is kept, whether the peer has a flow or not (own). NoMemory if there is none for the end, and then
     /// nothing goes out.
+    #[tactic(auto, unfolding(dccp_endpoint::specs::Receiving::receives))]
     pub fn greet(
         &self,
         peer: Peer,
@@ -159,7 +163,11 @@ impl Listener {
         ensures told { IfOk result (λ outcome. outcome ≡ (greets self.now peer iss bytes.now).answer) }
         ensures unmet { OnErr result (out.new ≡ None) }
     {
-        greet_alone(self.alloc, &self.config, peer, iss, bytes, out)
+        out.clear();
+        match decode(bytes) {
+            Ok(packet) => greet_packet(self.alloc, &self.config, peer, iss, &packet, bytes, out),
+            Err(fault) => Ok(Outcome::Dropped(Why::Malformed(fault))),
+        }
     }
 
     /// A peer's end, or None exactly if it has none. It was made for this peer, and is neither CLOSED nor in LISTEN.

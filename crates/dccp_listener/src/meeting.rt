@@ -16,11 +16,12 @@ ghost use Rattle.dccp_listener.specs.Runs.{Stepped, told_of};
 use crate::answers::without_memory;
 use crate::config::config_for;
 use crate::flows::{BoxedEnd, act_at, hear_at, put_flow};
-use crate::greeting::{greet, refuse};
+use crate::greeting::{greet, refuse_packet};
 use crate::{Heard, ListenConfig, NoFlow, Peer};
 use ccid_two::Kinds;
 use dccp_endpoint::{
-    Config, Endpoint, NoMemory, Outbox, Outcome, Seen, Seq48, UserCall, Why, answer_stranger,
+    Config, Endpoint, NoMemory, Outbox, Outcome, ResetCode, Seen, Seq48, UserCall, Why,
+    answer_stranger,
 };
 use dccp_packets::{Packet, decode};
 use std::alloc::Global;
@@ -85,7 +86,7 @@ fn meet(
         return Ok(Heard::Flow(outcome));
     }
     if is_full(config, flows) {
-        refuse(&own, packet, bytes, out);
+        refuse_packet(&own, packet, bytes, ResetCode::TooBusy.number(), out);
         return Ok(Heard::Busy);
     }
     let outcome = admit(alloc, &own, flows, peer, packet, bytes, out)?;
@@ -118,36 +119,8 @@ pub(crate) fn arrive(
     }
 }
 
-// A fresh end hears a datagram that was decoded, and goes.
-fn greet_once(
-    alloc: Global,
-    config: &Config,
-    packet: &Packet<'_>,
-    bytes: &[u8],
-    out: &mut Outbox,
-) -> Result<Outcome, NoMemory>
-    requires empty { out.old ≡ None }
-    requires short { length bytes.now ≤ 2044 }
-    requires read { decoded bytes.now ≡ Ok (parts_of_packet packet.now) }
-    requires options { length packet.now.options.now ≤ 1008 }
-    ensures met { IfOk result (λ outcome. (out.new ≡ (receiving kinds_control (begins kinds_control config.now at_first) bytes.now).frame) × (outcome ≡ (receiving kinds_control (begins kinds_control config.now at_first) bytes.now).answer)) }
-    ensures unmet { OnErr result (out.new ≡ None) }
-{
-    match greet(alloc, config, packet, bytes, out) {
-        Ok(met) => Ok(let_go(met)),
-        Err(fault) => Err(fault),
-    }
-}
-
-// The end goes, and its answer stays.
-fn let_go(met: (Endpoint<Kinds>, Outcome)) -> Outcome
-    ensures { result ≡ met.1 }
-{
-    met.1
-}
-
-// The same of a listener.
-fn greet_packet(
+/// A fresh end hears a datagram that was decoded, and goes.
+pub(crate) fn greet_packet(
     alloc: Global,
     config: &ListenConfig,
     peer: Peer,
@@ -164,28 +137,8 @@ fn greet_packet(
     ensures unmet { OnErr result (out.new ≡ None) }
 {
     let own = config_for(config, peer, iss, packet, bytes);
-    greet_once(alloc, &own, packet, bytes, out)
-}
-
-/// A fresh end hears a datagram of a peer, and goes.
-#[tactic(auto, unfolding(dccp_endpoint::specs::Receiving::receives))]
-pub(crate) fn greet_alone(
-    alloc: Global,
-    config: &ListenConfig,
-    peer: Peer,
-    iss: Seq48,
-    bytes: &[u8],
-    out: &mut Outbox,
-) -> Result<Outcome, NoMemory>
-    requires { length bytes.now ≤ 2044 }
-    ensures met { IfOk result (λ outcome. (out.new ≡ (greets_by config.now peer iss bytes.now).frame) × (outcome ≡ (greets_by config.now peer iss bytes.now).answer)) }
-    ensures unmet { OnErr result (out.new ≡ None) }
-{
-    out.clear();
-    match decode(bytes) {
-        Ok(packet) => greet_packet(alloc, config, peer, iss, &packet, bytes, out),
-        Err(fault) => Ok(Outcome::Dropped(Why::Malformed(fault))),
-    }
+    let (_, outcome) = greet(alloc, &own, packet, bytes, out)?;
+    Ok(outcome)
 }
 
 /// A call of a peer's end. Only the clauses look at the configuration.

@@ -1,11 +1,12 @@
 -- How a server refuses a datagram that would open a flow (own; RFC 4340, section 5.6).
 use Rattle.std.specs.Prelude.{ℕ, List, Option, None, is_some, if◌then◌else◌}
+use Rattle.dccp_listener.specs.Calls.{reset_for}
 use Rattle.dccp_listener.specs.Chain.{config_for}
 use Rattle.dccp_listener.specs.declared.peer.Peer.{Peer}
 use Rattle.dccp_packets.specs.Grammar.{decoded}
 use Rattle.dccp_packets.specs.Outgoing.{Outgoing}
 use Rattle.dccp_server.specs.Rooms.{RuledRoom}
-use Rattle.server_peers.specs.Refusals.{flow_asked, reset_for}
+use Rattle.server_peers.specs.Refusals.{flow_asked}
 use Rattle.server_peers.specs.Strangers.{answer_spared, frame_if_goes}
 
 -- The server once its owner has refused a datagram: what would open a flow takes one of the answers to strangers.

@@ -52,7 +52,7 @@ impl Server {
     ghost use Rattle.std.specs.Option.{option_map};
     ghost use Rattle.std.specs.Prelude.{◌≡◌, ◌≤◌, ◌↔◌, IfOk, IsErr, MatchOption, OnErr, None, Some, if◌then◌else◌, is_some, length, slice_get, true};
     ghost use Rattle.std.specs.Map.{keys_of};
-    ghost use Rattle.dccp_listener.specs.Calls.{seen_if};
+    ghost use Rattle.dccp_listener.specs.Calls.{reset_for, seen_if};
     ghost use Rattle.dccp_listener.specs.Chain.{Calls, asked, config_for};
     ghost use Rattle.dccp_listener.specs.Listens.{listens, is_table_full};
     ghost use Rattle.dccp_listener.specs.Peers.{end_of_peer};
@@ -64,7 +64,7 @@ impl Server {
     ghost use Rattle.server_peers.specs.CookieUses.{rekeyed};
     ghost use Rattle.server_peers.specs.Places.{peer_after};
     ghost use Rattle.dccp_server.specs.Refusals.{refused_frame, refused_server};
-    ghost use Rattle.server_peers.specs.Refusals.{flow_asked, reset_for};
+    ghost use Rattle.server_peers.specs.Refusals.{flow_asked};
     ghost use Rattle.dccp_server.specs.Rooms.{HasArrived, IsServed, forgets, is_to_be_heard, received_at, duty_done, duty_due, duty_frame, duty_in, room_does, room_waits, ruled_begins, who_is_over, who_leaves, with_user};
     ghost use Rattle.dccp_server.specs.Serving.{Does, Follows, doing_frame, flow_restraint, flow_restraint_by, upkeep_at};
 

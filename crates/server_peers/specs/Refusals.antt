@@ -1,34 +1,19 @@
 -- How a server turns away, without an end, a datagram that would open a connection (own; RFC 4340, sections 5.6 and 8.3.1).
-use Rattle.std.specs.Prelude.{ℕ, Bool, false, List, Option, Some, None, is_some, Result, Ok, Err, if◌then◌else◌}
-use Rattle.dccp_endpoint.specs.Drafts.{sent_of}
+use Rattle.std.specs.Prelude.{ℕ, Bool, List, Option, Some, None, is_some, if◌then◌else◌}
 use Rattle.dccp_endpoint.specs.End.{new_end}
 use Rattle.dccp_endpoint.specs.Receiving.{receives}
-use Rattle.dccp_endpoint.specs.Steps.{reset_of, without_detail}
 use Rattle.dccp_endpoint.specs.Strangers.{stays_in}
 use Rattle.dccp_endpoint.specs.declared.config.Config.{Config}
+use Rattle.dccp_listener.specs.Calls.{reset_for}
 use Rattle.dccp_listener.specs.Chain.{config_for}
 use Rattle.dccp_listener.specs.Peers.{ListenerState, end_of_peer}
 use Rattle.dccp_listener.specs.declared.peer.Peer.{Peer}
-use Rattle.dccp_packets.specs.Grammar.{Parts, decoded}
+use Rattle.dccp_packets.specs.Grammar.{decoded}
 use Rattle.dccp_packets.specs.Outgoing.{Outgoing}
-use Rattle.dccp_packets.specs.declared.header.Number.{Number}
-use Rattle.dccp_packets.specs.declared.header.Number.TheVariants.{Long, Short}
-use Rattle.dccp_packets.specs.declared.reading.Malformed.{Malformed}
 
 -- The end of a server that has received nothing would stay, with the connection that the datagram opens.
 abbrev pub opens_by : Config → List ℕ → Bool
 opens_by config bytes = stays_in (receives (new_end config) bytes).after.phase
-
--- The Reset with this code, sent without a connection: its number is 0, and it acknowledges the packet, whose number is a
--- long one.
-abbrev pub reset_by : ℕ → Config → Number → Option Outgoing
-reset_by code config (Long number) = Some (sent_of config false 0 (reset_of number (without_detail code)))
-reset_by code config (Short _) = None
-
--- the same for what bytes are
-abbrev pub reset_for : ℕ → Config → Result Parts Malformed → Option Outgoing
-reset_for code config (Ok parts) = reset_by code config parts.header.number
-reset_for code config (Err _) = None
 
 -- what goes out: what would open a connection is refused, and all else is answered as that server would
 abbrev pub refusal_frame : ℕ → Config → List ℕ → Option Outgoing

@@ -3,49 +3,12 @@ ghost use Rattle.std.specs.Prelude.{◌≡◌, ◌≤◌, None, Ok, if◌then◌
 ghost use Rattle.dccp_endpoint.specs.Incoming.{parts_of_packet};
 ghost use Rattle.dccp_listener.specs.Chain.{config_for};
 ghost use Rattle.dccp_packets.specs.Grammar.{decoded};
-ghost use Rattle.server_peers.specs.Refusals.{opens_by, refusal_frame, reset_by, reset_for, service_opened};
+ghost use Rattle.dccp_listener.specs.Calls.{reset_for};
+ghost use Rattle.server_peers.specs.Refusals.{opens_by, refusal_frame, service_opened};
 
-use dccp_endpoint::{Config, Fault, Outbox, Role, Seq48, answer_stranger, put_reset};
-use dccp_listener::{ListenConfig, Peer, config_for};
-use dccp_packets::{Number, Packet, decode};
-
-fn zero() -> Seq48
-    ensures { result ≡ 0 }
-{
-    match Seq48::new(0) {
-        Some(number) => number,
-        None => unreachable!(),
-    }
-}
-
-// Leaves the Reset with this code for a packet of this number.
-fn put_refusal(config: &Config, number: &Number, code: u8, out: &mut Outbox)
-    requires { out.old ≡ None }
-    ensures { out.new ≡ reset_by code config.now number.now }
-{
-    let fault = Fault {
-        code,
-        first: 0,
-        second: 0,
-        third: 0,
-    };
-    match *number {
-        Number::Long(number) => {
-            let _ = put_reset(config, zero(), number, fault, out);
-        }
-        Number::Short(_) => {}
-    }
-}
-
-// The same for a packet. Only the clauses look at its bytes.
-fn refuse_packet(config: &Config, packet: &Packet<'_>, bytes: &[u8], code: u8, out: &mut Outbox)
-    requires empty { out.old ≡ None }
-    requires read { decoded bytes.now ≡ Ok (parts_of_packet packet.now) }
-    ensures { out.new ≡ reset_for code config.now (decoded bytes.now) }
-{
-    let _ = bytes;
-    put_refusal(config, &packet.header.number, code, out);
-}
+use dccp_endpoint::{Config, Outbox, Role, Seq48, answer_stranger};
+use dccp_listener::{ListenConfig, Peer, config_for, refuse_packet};
+use dccp_packets::{Packet, decode};
 
 // Turns a packet away. Returns whether it would have opened a connection.
 fn turn_away(config: &Config, packet: &Packet<'_>, bytes: &[u8], code: u8, out: &mut Outbox) -> bool
@@ -97,7 +60,10 @@ fn refuse_flow(
     ensures sent { out.new ≡ (if is_some result then reset_for code (config_for config.now peer 0 bytes.now) (decoded bytes.now) else None) }
     ensures service { result ≡ service_opened (config_for config.now peer 0 bytes.now) bytes.now }
 {
-    let own = config_for(config, peer, zero(), packet, bytes);
+    let Some(zero) = Seq48::new(0) else {
+        unreachable!();
+    };
+    let own = config_for(config, peer, zero, packet, bytes);
     if turn_away(&own, packet, bytes, code, out) {
         return Some(own.service);
     }

@@ -5,9 +5,9 @@ use Rattle.dccp_listener.specs.Runs.{HadNoMemory, Stepped, WasBusy}
 use Rattle.dccp_packets.specs.declared.header.Number.TheVariants.{Short}
 use Rattle.dccp_states.specs.declared.outcome.Outcome.TheVariants.{SentReset, Took, WasReset}
 use Rattle.dccp_states.specs.declared.seen.Seen.TheVariants.{Received}
+use Rattle.dccp_listener.specs.Calls.{reset_by}
 use Rattle.dccp_server.specs.FlowDrops.{flow_recorded}
 use Rattle.dccp_server.specs.FlowInboxes.{lies_within}
-use Rattle.server_peers.specs.Refusals.{reset_by}
 use Rattle.server_peers.specs.Rules.{answers_to_strangers, class_of, is_none_left, left_since, limit_in, or_else, usual_rules}
 use Rattle.dccp_server.specs.Serving.{is_refusal, wait_until}
 use Rattle.dccp_server.specs.Upkeeps.{alarm_end, earlier, on_clock, tells_data, tells_taken}
