@@ -1,5 +1,6 @@
 -- The events that an owner gets about the flows of a server (own; the phases and Reset Codes are those of RFC 4340, sections 8.4 and 5.6).
 use Rattle.std.specs.Prelude.{◌==◌, ◌&&◌, ℕ, [], Bool, true, false, not, Option, Some, None, is_some, if◌then◌else◌}
+use Rattle.std.specs.Option.{option_or}
 use Rattle.ccid_two.specs.Kinds.{kinds_control}
 use Rattle.congestion_trait.specs.Control.{may_send}
 use Rattle.dccp_endpoint.specs.Calling.{is_closing, send_fault}
@@ -136,14 +137,9 @@ events_between peer was is place ending evicted =
 abbrev pub no_events : FlowEvents
 no_events = record { evicted = None; opened = None; delivery = None; room = None; ended = None }
 
--- the first event, if there is one, otherwise the second
-abbrev pub event_or : Option FlowEvent → Option FlowEvent → Option FlowEvent
-event_or (Some one) other = Some one
-event_or None other = other
-
 -- the first event
 abbrev pub first_event : FlowEvents → Option FlowEvent
-first_event them = event_or (event_or (event_or (event_or them.evicted them.opened) them.delivery) them.room) them.ended
+first_event them = option_or (option_or (option_or (option_or them.evicted them.opened) them.delivery) them.room) them.ended
 
 -- the events without the first
 abbrev pub events_left : FlowEvents → FlowEvents

@@ -5,13 +5,13 @@ use Rattle.dccp_packets.specs.Grammar.{Parts, decoded, packet_type}
 use Rattle.dccp_packets.specs.Kinds.{is_data}
 use Rattle.dccp_packets.specs.declared.header.Header.{Header}
 use Rattle.dccp_packets.specs.declared.header.Kind.{Kind}
-use Rattle.dccp_packets.specs.declared.header.Kind.TheVariants as kind
 use Rattle.dccp_packets.specs.declared.header.Number.{Number}
 use Rattle.dccp_packets.specs.declared.header.Number.TheVariants.{Long}
 use Rattle.dccp_packets.specs.declared.reading.Malformed.{Malformed}
 use Rattle.dccp_sum.specs.Checksum.{checked}
 use Rattle.dccp_sum.specs.declared.packet_sum.SumFault.{SumFault}
 use Rattle.dccp_sum.specs.declared.pseudo_header.Pseudo.TheVariants.{V4}
+use Rattle.dccp_listener.specs.Chain.{requested}
 use Rattle.dccp_listener.specs.declared.config.ListenConfig.{ListenConfig}
 use Rattle.dccp_listener.specs.declared.peer.Peer.{Peer}
 use Rattle.init_cookies.specs.CookieOptions.{first_cookie}
@@ -33,10 +33,14 @@ abbrev pub asking_this : ℕ → ℕ → List ℕ → ℕ → ℕ → DatagramRe
 asking_this now iss area number service =
     if nat_le (length area) 220 then This (record { time = now; iss = iss; number = number; service = service; options = area }) else TooLong
 
--- what a packet of this type and number asks for (section 5.2)
+-- what a packet that asks for a service asks for, by its number, which is a long one (section 5.2)
+abbrev pub asking_service : ℕ → ℕ → List ℕ → Option ℕ → Number → DatagramRequest
+asking_service now iss area (Some service) (Long number) = asking_this now iss area number service
+asking_service now iss area _ _ = Nothing
+
+-- the same by its type
 abbrev pub asking_by : ℕ → ℕ → List ℕ → Kind → Number → DatagramRequest
-asking_by now iss area (kind.Request service) (Long number) = asking_this now iss area number service
-asking_by now iss area _ _ = Nothing
+asking_by now iss area kind number = asking_service now iss area (requested kind) number
 
 -- the checksum of a packet is right (section 9.1)
 abbrev pub is_summed : Result (Unit {0}) SumFault → Bool

@@ -1,14 +1,13 @@
 //! What a datagram asks for, and which opening it brings back.
 ghost use Rattle.std.specs.Prelude.{◌≡◌, ◌≤◌, Ok, length};
 ghost use Rattle.dccp_packets.specs.Grammar.{decoded};
-ghost use Rattle.dccp_sum.specs.Checksum.{checked};
 ghost use Rattle.dccp_endpoint.specs.Incoming.{parts_of_packet};
-ghost use Rattle.server_peers.specs.Requests.{asking_by, asking_of, asking_this, cookie_read, entry_by, is_summed, opening_in, route_of, travels_by};
+ghost use Rattle.server_peers.specs.Requests.{asking_by, asking_of, asking_this, cookie_read, entry_by, opening_in, route_of, travels_by};
 
 use dccp_endpoint::{Pseudo, Seq48};
-use dccp_listener::{ListenConfig, Peer};
+use dccp_listener::{ListenConfig, Peer, requested};
 use dccp_options::options;
-use dccp_packets::{Header, Kind, Number, Packet, decode};
+use dccp_packets::{Header, Number, Packet, decode};
 use dccp_sum::check;
 use init_cookies::{CookieKeys, FirstRequest, Route, first_cookie};
 
@@ -61,51 +60,15 @@ fn asking_this(now: u64, iss: Seq48, area: &[u8], number: Seq48, service: u32) -
     }
 }
 
-fn asking_by(now: u64, iss: Seq48, area: &[u8], kind: &Kind, number: &Number) -> DatagramRequest
-    ensures { result ≡ asking_by now iss area.now kind.now number.now }
-{
-    match (*kind, *number) {
-        (Kind::Request { service }, Number::Long(number)) => {
-            asking_this(now, iss, area, number, service)
-        }
-        (Kind::Request { service: _ }, Number::Short(_))
-        | (
-            Kind::Response { ack: _, service: _ }
-            | Kind::Data
-            | Kind::Ack { ack: _ }
-            | Kind::DataAck { ack: _ }
-            | Kind::CloseReq { ack: _ }
-            | Kind::Close { ack: _ }
-            | Kind::Reset {
-                ack: _,
-                code: _,
-                detail: _,
-            }
-            | Kind::Sync { ack: _ }
-            | Kind::SyncAck { ack: _ },
-            _,
-        ) => DatagramRequest::Nothing,
-    }
-}
-
 fn asking_in(now: u64, iss: Seq48, packet: &Packet<'_>) -> DatagramRequest
     ensures { result ≡ asking_by now iss packet.now.options.now packet.now.header.kind packet.now.header.number }
 {
-    asking_by(
-        now,
-        iss,
-        packet.options,
-        &packet.header.kind,
-        &packet.header.number,
-    )
-}
-
-fn is_summed(route: &Route, bytes: &[u8]) -> bool
-    requires low { 8 ≤ length bytes.now }
-    requires high { length bytes.now ≤ 65535 }
-    ensures { result ≡ is_summed (checked route.now.pseudo bytes.now) }
-{
-    check(&route.pseudo, bytes).is_ok()
+    match (requested(&packet.header.kind), packet.header.number) {
+        (Some(service), Number::Long(number)) => {
+            asking_this(now, iss, packet.options, number, service)
+        }
+        (Some(_), Number::Short(_)) | (None, _) => DatagramRequest::Nothing,
+    }
 }
 
 fn travels_by(route: &Route, bytes: &[u8], header: &Header) -> bool
@@ -113,7 +76,7 @@ fn travels_by(route: &Route, bytes: &[u8], header: &Header) -> bool
     requires high { length bytes.now ≤ 65535 }
     ensures { result ≡ travels_by route.now bytes.now header.now }
 {
-    is_summed(route, bytes) && (header.from == route.from && header.to == route.to)
+    check(&route.pseudo, bytes).is_ok() && (header.from == route.from && header.to == route.to)
 }
 
 /// What a datagram of at most 2,044 bytes asks for, if it came by this route and would be answered now under this

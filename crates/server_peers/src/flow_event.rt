@@ -112,17 +112,8 @@ impl FlowEvents {
     pub fn first(&self) -> Option<FlowEvent>
         ensures { result ≡ first_event self.now }
     {
-        if self.evicted.is_some() {
-            self.evicted
-        } else if self.opened.is_some() {
-            self.opened
-        } else if self.delivery.is_some() {
-            self.delivery
-        } else if self.room.is_some() {
-            self.room
-        } else {
-            self.ended
-        }
+        let opening = self.evicted.or(self.opened);
+        opening.or(self.delivery).or(self.room).or(self.ended)
     }
 
     /// Drops the first.

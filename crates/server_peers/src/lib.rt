@@ -29,7 +29,7 @@ pub use crate::flow_event::{
     EndCause, EndReason, EventKind, FlowEvent, FlowEvents, FlowState, aborted_end, data_told,
     ending_heard, event_if, events_between, is_ended, seen_flow, silent_end,
 };
-pub use crate::life::{Life, Signs, lives_on, signs_answered, signs_heard, signs_in};
+pub use crate::life::{Life, Signs, lives_on, rank_of, signs_answered, signs_heard, signs_in};
 pub use crate::naming::{stand_in, stand_ins_are_read_as_their_peers};
 pub use crate::queue::Ticket;
 pub use crate::refusal::{refuse, refuse_stranger};

@@ -59,7 +59,8 @@ impl Life {
     }
 }
 
-fn rank_of(phase: Phase) -> u8
+/// The number of a phase, in the order of RFC 4340, section 8.4.
+pub fn rank_of(phase: Phase) -> u8
     ensures { result ≡ rank_of phase }
 {
     match phase {

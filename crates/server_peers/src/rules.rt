@@ -1,6 +1,6 @@
 //! The rules by which a server gives flows up and makes room.
 ghost use Rattle.std.specs.Prelude.{◌≡◌};
-ghost use Rattle.server_peers.specs.Rules.{answers_to_strangers, first_given_up, holder, is_crowd, is_none_left, least_in, least_left, limit_in, longest, makes_way, over_in, stage_left};
+ghost use Rattle.server_peers.specs.Rules.{answers_to_strangers, first_given_up, is_crowd, least_in, least_left, limit_in, longest, makes_way, over_in, stage_left};
 
 use crate::life::Life;
 use crate::queue::Ticket;
@@ -117,27 +117,14 @@ fn stage_left(
     rules: &Rules,
     crowded: bool,
     stage: Stage,
-    ticket: &Option<Ticket>,
+    ticket: Option<Ticket>,
     now: u64,
 ) -> Option<u64>
-    ensures { result ≡ stage_left rules.now crowded now stage ticket.now }
+    ensures { result ≡ stage_left rules.now crowded now stage ticket }
 {
-    let Some(ticket) = ticket else {
-        return None;
-    };
-    match limit_in(rules, crowded, stage) {
-        Some(limit) => Some(limit.saturating_sub(now.saturating_sub(ticket.time))),
-        None => None,
-    }
-}
-
-fn is_none_left(left: Option<u64>) -> bool
-    ensures { result ≡ is_none_left left }
-{
-    match left {
-        Some(left) => left == 0,
-        None => false,
-    }
+    let time = ticket?.time;
+    let limit = limit_in(rules, crowded, stage)?;
+    Some(limit.saturating_sub(now.saturating_sub(time)))
 }
 
 // The flow that has been longest in a stage, if it may stay no longer.
@@ -151,18 +138,9 @@ fn over_in(
     ensures { result ≡ over_in rules.now crowded now stage lives.now }
 {
     let ticket = longest(lives, stage);
-    if is_none_left(stage_left(rules, crowded, stage, &ticket, now)) {
-        return ticket;
-    }
-    None
-}
-
-fn holder(ticket: Option<Ticket>) -> Option<Peer>
-    ensures { result ≡ holder ticket }
-{
-    match ticket {
-        Some(ticket) => Some(ticket.peer),
-        None => None,
+    match stage_left(rules, crowded, stage, ticket, now) {
+        Some(0) => ticket,
+        Some(_) | None => None,
     }
 }
 
@@ -181,7 +159,7 @@ pub fn first_given_up(
     if let Some(ticket) = over_in(rules, crowded, Stage::Live, lives, now) {
         return Some(ticket.peer);
     }
-    holder(over_in(rules, crowded, Stage::Ending, lives, now))
+    Some(over_in(rules, crowded, Stage::Ending, lives, now)?.peer)
 }
 
 // How long is left in a stage, at most `most`.
@@ -196,7 +174,7 @@ fn least_in(
     ensures { result ≡ least_in rules.now crowded now lives.now stage least }
 {
     let ticket = longest(lives, stage);
-    let left = stage_left(rules, crowded, stage, &ticket, now);
+    let left = stage_left(rules, crowded, stage, ticket, now);
     least.min(left.unwrap_or(least))
 }
 
@@ -219,5 +197,5 @@ pub fn makes_way(rules: &Rules, crowded: bool, lives: &Register<Life>, now: u64)
     if let Some(ticket) = longest(lives, Stage::Lingering) {
         return Some(ticket.peer);
     }
-    holder(over_in(rules, crowded, Stage::HalfOpen, lives, now))
+    Some(over_in(rules, crowded, Stage::HalfOpen, lives, now)?.peer)
 }

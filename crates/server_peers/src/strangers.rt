@@ -55,23 +55,10 @@ fn taken_if(limit: Option<Limit>, bucket: &Bucket, now: u64) -> TokenGrant
 fn is_no_connection(heard: &Result<Option<Heard>, NoMemory>) -> bool
     ensures { result ≡ is_no_connection (told_of_arrival heard.now) }
 {
-    match heard {
-        Ok(Some(Heard::Flow(Outcome::SentReset { code, .. }))) => {
-            *code == ResetCode::NoConnection.number()
-        }
-        Ok(
-            Some(
-                Heard::Flow(
-                    Outcome::Took { .. }
-                    | Outcome::Dropped(_)
-                    | Outcome::Synced(_)
-                    | Outcome::WasReset(_),
-                ),
-            ),
-        )
-        | Ok(Some(Heard::Busy) | None)
-        | Err(NoMemory) => false,
-    }
+    matches!(
+        heard,
+        Ok(Some(Heard::Flow(Outcome::SentReset { code, .. }))) if *code == ResetCode::NoConnection.number()
+    )
 }
 
 /// Whether an answer to a stranger goes out, and what is left of the limit then.
