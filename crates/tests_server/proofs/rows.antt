@@ -1,3 +1,4 @@
 pub mod RowsFlowInboxes
 pub mod RowsMeetings
+pub mod RowsPeers
 pub mod RowsServing

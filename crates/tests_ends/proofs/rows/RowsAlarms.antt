@@ -1,7 +1,7 @@
 -- The timers of an end, one by one, computed from the definitions. The waits are those of RFC 4340, sections 3.4, 6.6.3, 8.1.1, 8.1.5 and 8.3, and
 -- of RFC 2988, sections 2 and 5; the times were worked out by hand.
 use Rattle.dccp_states.specs.Phases.{is_closed}
-use Rattle.std.proofs.Common.{◌≡◌, refl, ℕ, true, false, [], Option, Some, None, Ok, Err}
+use Rattle.std.proofs.Common.{◌≡◌, refl, ℕ, true, false, [], ◌∷◌, map, Option, Some, None, Ok, Err}
 use Rattle.ccid_two.specs.Kinds.{Both}
 use Rattle.dccp_endpoint.specs.Controlled.{End}
 use Rattle.dccp_states.specs.declared.calls.SendFault.TheVariants.{WindowFull}
@@ -64,6 +64,18 @@ waits_of_an_end_that_knows_no_path :
     × (timer_wait classic_waits timers.TimeWait ≡ record { first = 240000; most = 64000 })
     × (no_alarms.rto_wait ≡ 1000)
 waits_of_an_end_that_knows_no_path = (refl, refl, refl, refl, refl, refl, refl)
+
+-- each timer has a wait of its own, whatever the others wait
+abbrev waiting : ℕ → Wait
+waiting first = record { first = first; most = 64000 }
+
+each_timer_has_its_wait :
+    map
+    (timer_wait
+    (record { request = waiting 1; ack = waiting 2; negotiate = waiting 3; rto = waiting 4; close = waiting 5; time_wait = waiting 6 }))
+    (timers.Request ∷ timers.Ack ∷ timers.Negotiate ∷ timers.Rto ∷ timers.Close ∷ timers.TimeWait ∷ [])
+    ≡ map waiting (1 ∷ 2 ∷ 3 ∷ 4 ∷ 5 ∷ 6 ∷ [])
+each_timer_has_its_wait = refl
 
 -- A wait doubles, up to 64 seconds; TIMEWAIT lasts four minutes each time. No wait is shorter than a millisecond.
 abbrev no_wait : Wait

@@ -1,21 +1,24 @@
 -- What an owner begins with, in which phases it times packets, and which packets it gets, computed from the definitions. The values are those of
 -- docs/PROTOCOL.md and of RFC 4340: an Ack Ratio of 2 (section 11.3), the phases in which the first packet of an end waits for its answer
 -- (sections 8.1.1 and 8.1.3), and those in which windows judge what arrives (section 8.5, steps 5 and 6).
-use Rattle.std.proofs.Common.{◌≡◌, refl, ℕ, true, false, List, ◌∷◌, length, replicate, Some, None}
+use Rattle.std.proofs.Common.{◌≡◌, refl, ℕ, true, false, List, ◌∷◌, length, replicate, Some, None, codes}
 use Rattle.data_dropped.specs.Drops.{drop_code}
 use Rattle.data_dropped.specs.declared.drops.DropEntry.{DropEntry}
+use Rattle.dccp_endpoint.specs.Calling.{opens}
+use Rattle.dccp_endpoint.specs.Receiving.{receives}
 use Rattle.dccp_states.specs.declared.phase.Phase.TheVariants as phases
 use Rattle.validity_windows.specs.declared.verdict.Verdict.TheVariants.{Drop, SyncFor, Valid}
 use Rattle.dccp_uses.specs.DropRecord.{drop_recorded}
 use Rattle.dccp_uses.specs.Notice.{no_drops, no_notice}
 use Rattle.dccp_uses.specs.Path.{classic_pace, is_handshake, is_open_phase, is_probing, path_begins, patience, usual_pace}
-use Rattle.dccp_uses.specs.Reader.{asks_slower}
-use Rattle.dccp_uses.specs.Syncs.{admitted_by, admitted_within, has_windows, is_sync_verdict, noticed_if}
+use Rattle.dccp_uses.specs.Reader.{asks_slower, reader_begins}
+use Rattle.dccp_uses.specs.Syncs.{admitted_by, admitted_within, has_windows, is_sync_verdict, notice_judged, noticed_if}
 use Rattle.dccp_uses.specs.Timed.{ruled_condition}
 use Rattle.dccp_uses.specs.declared.notice.Notice.{Notice}
 use Rattle.dccp_uses.specs.declared.path.Path.{Path}
 use Rattle.dccp_uses.specs.declared.sight.Sight.{Sight}
 use Rattle.feature_machine.specs.declared.stands.Stand.TheVariants as stand
+use Rattle.tests_ends.proofs.rows.RowsSeen.{bytes, open_client, requesting}
 
 -- all rules, and none
 all_rules_or_none :
@@ -70,6 +73,15 @@ when_a_word_counts : (word : Notice) →
     × ((noticed_if true word (record { heard = false; path = record usual { notice = word } })).path ≡ usual)
     × ((noticed_if false word (record { heard = true; path = usual })).path ≡ usual)
 when_a_word_counts word = (refl, refl, refl)
+
+-- An Ack of the server with the option Slow Receiver (section 11.6) is judged in OPEN. In REQUEST no windows judge it.
+abbrev slow_ack : List ℕ
+slow_ack = bytes (codes "13899c400700203c07000000000007d100000000000003e902000000")
+
+where_a_word_is_judged :
+    ((notice_judged open_client reader_begins slow_ack).slow ≡ true) × ((notice_judged requesting reader_begins slow_ack).slow ≡ false)
+unfolding receives opens
+where_a_word_is_judged = (refl, refl)
 
 -- an open end with this many packets in flight and such a window
 abbrev flying : ℕ → ℕ → Sight
