@@ -24,13 +24,14 @@ fn client() -> Option<Config> {
         own: 40000,
         peer: 5001,
     };
-    Some(Config::client(addresses, ports, 42, Seq48::new(1000)?))
+    let iss = Seq48::new(1000)?;
+    Some(Config::client(addresses, ports, 42, iss))
 }
 
 // Whether an end has taken a Request, and knows nothing about a number that it did not send.
 fn takes(end: &mut Endpoint<Kinds>) -> Option<bool> {
-    let frames = [Frame::of(&REQUEST)?];
-    let taken = feed(end, &frames);
+    let frame = Frame::of(&REQUEST)?;
+    let taken = feed(end, &[frame]);
     let number = Seq48::new(1000)?;
     Some(taken == 1 && !end.is_reported(number) && !end.stands(number, Standing::Out))
 }
@@ -85,8 +86,9 @@ fn hears(kind: &mut AdditiveWindow) -> Option<bool> {
     if !kind.may_send() {
         return None;
     }
-    kind.on_sent(Seq48::new(1)?);
-    let report = AckReport::of(Seq48::new(1)?, options(&[38, 3, 0x00], false))?;
+    let number = Seq48::new(1)?;
+    kind.on_sent(number);
+    let report = AckReport::of(number, options(&[38, 3, 0x00], false))?;
     kind.on_report(&report, 2);
     Some(kind.window() == 2 && kind.in_flight() == 0)
 }
@@ -108,8 +110,8 @@ fn an_own_window_grows(rt: HostRuntime) {
 }
 
 fn code() -> Option<u8> {
-    let report = DropReport::of(Seq48::new(20)?, options(&[40, 3, 0xa0], false))?;
-    report.code(Seq48::new(20)?)
+    let number = Seq48::new(20)?;
+    DropReport::of(number, options(&[40, 3, 0xa0], false))?.code(number)
 }
 
 #[test]

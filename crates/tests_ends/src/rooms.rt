@@ -29,16 +29,16 @@ const CHANGES: [u8; 41] = [
     4, 4, 1, 32, 9, 3, 0, 0, 0, 0, 0, 100,
 ];
 
+const COVERAGES: [u64; 8] = [0, 1, 2, 3, 4, 5, 6, 7];
+
 // The server, which reports up to 506 bytes of its history, and wishes for eight values of Minimum Checksum Coverage.
 fn config() -> Option<Config> {
     let mut config = Config::usual(Role::Server);
     config.plain();
     config.vectors = Vectors::Two;
-    let coverages = [0, 1, 2, 3, 4, 5, 6, 7];
-    config.set(Feature::MinCsCov, Place::Here, &coverages).ok()?;
-    config
-        .set(Feature::MinCsCov, Place::There, &coverages)
-        .ok()?;
+    for place in &[Place::Here, Place::There] {
+        config.set(Feature::MinCsCov, *place, &COVERAGES).ok()?;
+    }
     Some(config)
 }
 

@@ -2,7 +2,7 @@
 //! full numbers: that of the frame that brought them, and that of the frame that reports them.
 use ccid_two::Kinds;
 use data_dropped::{Arrival, BufferedEnd};
-use dccp_endpoint::{Config, Feature, Outbox, Place, Role};
+use dccp_endpoint::{Config, Feature, NoMemory, Outbox, Place, Role};
 use std::alloc::Global;
 use std::test::Fail;
 
@@ -74,8 +74,9 @@ fn config() -> Option<Config> {
     Some(config)
 }
 
-fn server(alloc: Global) -> Option<Server> {
-    BufferedEnd::new(alloc, config()?, Kinds::new(alloc).ok()?, 1).ok()
+fn server(alloc: Global, config: Config) -> Result<Server, NoMemory> {
+    let congestion = Kinds::new(alloc)?;
+    BufferedEnd::new(alloc, config, congestion, 1)
 }
 
 fn sends(out: &Outbox, bytes: &[u8]) -> bool {
@@ -108,8 +109,9 @@ fn plays(server: &mut Server) -> Result<(), Fail> {
 
 #[test]
 fn drops_under_short_numbers(rt: HostRuntime) -> Result<(), Fail> {
-    match server(rt.alloc()) {
-        Some(mut server) => plays(&mut server),
-        None => Err(Fail::from("memory")),
-    }
+    let Some(config) = config() else {
+        return Err(Fail::from("a value that is refused"));
+    };
+    let mut server = server(rt.alloc(), config)?;
+    plays(&mut server)
 }

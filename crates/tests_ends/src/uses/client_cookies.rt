@@ -2,7 +2,7 @@
 //! worked out by hand, and their checksums by another program.
 use crate::uses::wire::Wire;
 use ccid_two::Kinds;
-use dccp_endpoint::{Config, Phase, Role};
+use dccp_endpoint::{Config, NoMemory, Phase, Role};
 use dccp_uses::{Pace, Session};
 use std::alloc::Global;
 
@@ -50,11 +50,11 @@ const CLOSE: [u8; 24] = [
 ];
 
 // A client that offers nothing.
-fn client(alloc: Global) -> Option<Session<Kinds>> {
+fn client(alloc: Global) -> Result<Session<Kinds>, NoMemory> {
     let mut config = Config::usual(Role::Client);
     config.plain();
-    let congestion = Kinds::new(alloc).ok()?;
-    Session::new(alloc, config, congestion, Pace::classic()).ok()
+    let congestion = Kinds::new(alloc)?;
+    Session::new(alloc, config, congestion, Pace::classic())
 }
 
 // Whether the next frame that goes out has these bytes.
@@ -84,26 +84,27 @@ fn closes(client: &mut Session<Kinds>, wire: &mut Wire) -> bool {
     client.end().phase() == Phase::Open && client.close(310, wire).is_ok() && goes_out(wire, &CLOSE)
 }
 
-fn returns_until_open(alloc: Global) -> Option<bool> {
+fn returns_until_open(alloc: Global) -> Result<bool, NoMemory> {
     let mut client = client(alloc)?;
     let mut wire = Wire::whole(alloc);
     let connected = connects(&mut client, &mut wire, &RESPONSE, &ACK);
-    Some(connected && repeats(&mut client, &mut wire) && closes(&mut client, &mut wire))
+    Ok(connected && repeats(&mut client, &mut wire) && closes(&mut client, &mut wire))
 }
 
 #[test]
 fn a_session_returns_its_cookie(rt: HostRuntime) {
-    assert!(rt; returns_until_open(rt.alloc()) == Some(true));
+    assert!(rt; matches!(returns_until_open(rt.alloc()), Ok(true)));
 }
 
-fn returns_neither(alloc: Global) -> Option<bool> {
+fn returns_neither(alloc: Global) -> Result<bool, NoMemory> {
     let mut client = client(alloc)?;
     let mut wire = Wire::whole(alloc);
-    Some(connects(&mut client, &mut wire, &TWO_COOKIES, &PLAIN_ACK))
+    let connected = connects(&mut client, &mut wire, &TWO_COOKIES, &PLAIN_ACK);
+    Ok(connected)
 }
 
 // If a Response has two, none is returned (own).
 #[test]
 fn a_session_returns_no_two_cookies(rt: HostRuntime) {
-    assert!(rt; returns_neither(rt.alloc()) == Some(true));
+    assert!(rt; matches!(returns_neither(rt.alloc()), Ok(true)));
 }

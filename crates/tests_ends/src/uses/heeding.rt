@@ -3,7 +3,7 @@
 use crate::uses::wire::Wire;
 use ccid_two::Kinds;
 use data_dropped::BufferedEnd;
-use dccp_endpoint::{Config, Outbox, Phase, Role, Timer};
+use dccp_endpoint::{Config, NoMemory, Outbox, Phase, Role, Timer};
 use dccp_uses::{Network, Pace, Restraint, SendRefusal, TimedEnd};
 use std::alloc::Global;
 
@@ -31,27 +31,26 @@ fn post(out: &Outbox, wire: &mut Wire) {
     }
 }
 
-fn sender(alloc: Global) -> Option<TimedEnd<Kinds>> {
-    let congestion = Kinds::new(alloc).ok()?;
+fn sender(alloc: Global) -> Result<TimedEnd<Kinds>, NoMemory> {
+    let congestion = Kinds::new(alloc)?;
     TimedEnd::new(
         alloc,
         Config::usual(Role::Client),
         congestion,
         Pace::usual(),
     )
-    .ok()
 }
 
-fn reader(alloc: Global) -> Option<BufferedEnd<Kinds>> {
-    let congestion = Kinds::new(alloc).ok()?;
-    BufferedEnd::new(alloc, Config::usual(Role::Server), congestion, CAPACITY).ok()
+fn reader(alloc: Global) -> Result<BufferedEnd<Kinds>, NoMemory> {
+    let congestion = Kinds::new(alloc)?;
+    BufferedEnd::new(alloc, Config::usual(Role::Server), congestion, CAPACITY)
 }
 
 impl Pair {
-    fn new(alloc: Global) -> Option<Pair> {
+    fn new(alloc: Global) -> Result<Pair, NoMemory> {
         let sender = sender(alloc)?;
         let reader = reader(alloc)?;
-        Some(Pair {
+        Ok(Pair {
             now: 5_000,
             sender,
             reader,
@@ -195,8 +194,8 @@ fn first_amiss(pair: &mut Pair) -> Option<&'static str> {
 
 fn amiss(alloc: Global) -> Option<&'static str> {
     match Pair::new(alloc) {
-        Some(mut pair) => first_amiss(&mut pair),
-        None => Some("memory"),
+        Ok(mut pair) => first_amiss(&mut pair),
+        Err(NoMemory) => Some("memory"),
     }
 }
 

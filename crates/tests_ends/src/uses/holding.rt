@@ -4,7 +4,7 @@
 use crate::uses::wire::Wire;
 use ccid_two::Kinds;
 use data_dropped::Intake;
-use dccp_endpoint::{Config, Phase, Role};
+use dccp_endpoint::{Config, NoMemory, Phase, Role};
 use dccp_uses::{News, Pace, Restraint, SendRefusal, Session};
 use std::alloc::Global;
 
@@ -38,9 +38,9 @@ struct Pair {
     read: u32,
 }
 
-fn session(alloc: Global, role: Role) -> Option<Session<Kinds>> {
-    let congestion = Kinds::new(alloc).ok()?;
-    Session::new(alloc, Config::usual(role), congestion, Pace::usual()).ok()
+fn session(alloc: Global, role: Role) -> Result<Session<Kinds>, NoMemory> {
+    let congestion = Kinds::new(alloc)?;
+    Session::new(alloc, Config::usual(role), congestion, Pace::usual())
 }
 
 fn told_of(told: &ReaderNews, news: News) -> ReaderNews {
@@ -59,11 +59,11 @@ fn told_of(told: &ReaderNews, news: News) -> ReaderNews {
 }
 
 impl Pair {
-    fn new(alloc: Global) -> Option<Pair> {
-        let intake = Intake::new(alloc, CAPACITY).ok()?;
+    fn new(alloc: Global) -> Result<Pair, NoMemory> {
+        let intake = Intake::new(alloc, CAPACITY)?;
         let reader = session(alloc, Role::Server)?.holding(intake);
         let sender = session(alloc, Role::Client)?;
-        Some(Pair {
+        Ok(Pair {
             now: 5_000,
             sender,
             reader,
@@ -90,6 +90,11 @@ impl Pair {
         let _ = self.sender.arrived(datagram, self.now, &mut self.to_reader);
     }
 
+    fn tick(&mut self) {
+        self.reader.tick(self.now, &mut self.to_sender);
+        self.sender.tick(self.now, &mut self.to_reader);
+    }
+
     // A turn goes by: what is on its way arrives, and both sides are given what is due.
     fn turn(&mut self) {
         self.now = self.now.saturating_add(TURN);
@@ -103,8 +108,7 @@ impl Pair {
                 self.hear_reader(&datagram);
             }
         }
-        self.reader.tick(self.now, &mut self.to_sender);
-        self.sender.tick(self.now, &mut self.to_reader);
+        self.tick();
     }
 
     fn turns(&mut self, count: u32) {
@@ -237,8 +241,8 @@ fn first_amiss(pair: &mut Pair) -> Option<&'static str> {
 
 fn amiss(alloc: Global) -> Option<&'static str> {
     match Pair::new(alloc) {
-        Some(mut pair) => first_amiss(&mut pair),
-        None => Some("memory"),
+        Ok(mut pair) => first_amiss(&mut pair),
+        Err(NoMemory) => Some("memory"),
     }
 }
 

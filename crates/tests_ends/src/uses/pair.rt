@@ -183,14 +183,23 @@ impl Pair {
         let Some(server) = &mut self.server else {
             return true;
         };
-        match server.arrived(datagram, self.now, &mut self.to_client) {
-            News::Data { first, past } => {
-                return self.got.extend_from_slice(&datagram[first..past]).is_ok();
+        let news = server.arrived(datagram, self.now, &mut self.to_client);
+        self.note(news, datagram)
+    }
+
+    // What the server is told of a datagram.
+    fn note(&mut self, news: News, datagram: &[u8]) -> bool {
+        match news {
+            News::Data { first, past } => match datagram.get(first..past) {
+                Some(data) => self.got.extend_from_slice(data).is_ok(),
+                None => false,
+            },
+            News::Ended { code } => {
+                self.server_ended = Some(code);
+                true
             }
-            News::Ended { code } => self.server_ended = Some(code),
-            News::Waits | News::Dropped { .. } | News::Quiet | News::TooLong => {}
+            News::Waits | News::Dropped { .. } | News::Quiet | News::TooLong => true,
         }
-        true
     }
 
     // The client's owner.

@@ -19,12 +19,24 @@ pub(crate) struct Wire {
     loss: Loss,
 }
 
-// The next draw, below 2^31 (Knuth's MMIX generator).
-fn draw(draws: &mut u64) -> usize {
-    *draws = draws
-        .wrapping_mul(6_364_136_223_846_793_005)
-        .wrapping_add(1_442_695_040_888_963_407);
-    (*draws >> 33) as usize
+// The draw after this one (Knuth's MMIX generator).
+fn next_draw(draw: u64) -> u64 {
+    draw.wrapping_mul(6_364_136_223_846_793_005)
+        .wrapping_add(1_442_695_040_888_963_407)
+}
+
+impl Loss {
+    // The next draw, below 2^31; 0 if none are made.
+    fn draw(&mut self) -> usize {
+        match *self {
+            Loss::Drawn(last) => {
+                let next = next_draw(last);
+                *self = Loss::Drawn(next);
+                (next >> 33) as usize
+            }
+            Loss::Next(_) => 0,
+        }
+    }
 }
 
 impl Wire {
@@ -53,11 +65,7 @@ impl Wire {
 
     fn loses(&mut self) -> bool {
         match self.loss {
-            Loss::Drawn(mut draws) => {
-                let lost = draw(&mut draws) % 4 == 0;
-                self.loss = Loss::Drawn(draws);
-                lost
-            }
+            Loss::Drawn(_) => self.loss.draw() % 4 == 0,
             Loss::Next(0) => false,
             Loss::Next(frames) => {
                 self.loss = Loss::Next(frames - 1);
@@ -71,14 +79,8 @@ impl Wire {
         if self.frames.is_empty() {
             return None;
         }
-        match self.loss {
-            Loss::Drawn(mut draws) => {
-                let place = draw(&mut draws) % self.frames.len();
-                self.loss = Loss::Drawn(draws);
-                Some(self.frames.remove(place))
-            }
-            Loss::Next(_) => Some(self.frames.remove(0)),
-        }
+        let place = self.loss.draw() % self.frames.len();
+        Some(self.frames.remove(place))
     }
 
     fn keep(&mut self, frame: &[u8]) {
