@@ -54,22 +54,23 @@ header_text header =
 abbrev pub sum_text : DatagramParts → List ℕ
 sum_text there = codes " sum " ++ (if there.whole then sum_name (checked there.pseudo there.bytes) else codes "unknown")
 
--- the options, without those that Data packets ignore, how many bytes of data are there, and the checksum
-abbrev pub rest_text : DatagramParts → Parts → List ℕ
-rest_text there packet =
+-- the options, without those that Data packets ignore, and how many bytes of data are there
+abbrev pub body_text : Parts → List ℕ
+body_text packet =
     options_text (options_of packet.options (is_data (packet_type packet.header.kind))) ++ codes " data " ++ decimal (length packet.payload)
-    ++ sum_text there ++ codes "\n"
+
+-- what follows a packet's header: its options and data, and the checksum
+abbrev pub rest_text : DatagramParts → Parts → List ℕ
+rest_text there packet = body_text packet ++ sum_text there ++ codes "\n"
 
 -- the line of a packet: its record, its flow and ends, its header, and then options, data and checksum
 abbrev pub packet_line : RecordParts → DatagramParts → Parts → ℕ → List ℕ
 packet_line entry there packet flow =
     stamp_text entry ++ sender_text there packet.header.from flow ++ receiver_text there packet.header.to ++ header_text packet.header ++ rest_text there packet
 
--- what a packet says: its header, its options, without those that Data packets ignore, and how many bytes of data are there
+-- what a packet says: its header, its options and data
 abbrev pub words_text : Parts → List ℕ
-words_text packet =
-    header_text packet.header ++ options_text (options_of packet.options (is_data (packet_type packet.header.kind))) ++ codes " data "
-    ++ decimal (length packet.payload)
+words_text packet = header_text packet.header ++ body_text packet
 
 -- the line of bytes that are no packet: their record, and what is wrong with them
 abbrev pub malformed_line : RecordParts → Malformed → List ℕ

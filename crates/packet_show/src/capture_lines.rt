@@ -6,7 +6,7 @@ ghost use Rattle.packet_show.specs.CaptureText.{CountsFit, fault_name, counts_li
 use crate::show::Tally;
 use capture_reader::CaptureFault;
 use seq_circle::NoMemory;
-use tool_text::{put, put_counted};
+use tool_text::{put, put_counted, put_named};
 
 fn fault_name(fault: CaptureFault) -> &'static [u8]
     ensures { result.now ≡ fault_name fault }
@@ -38,11 +38,11 @@ fn put_fault(text: &mut Vec<u8>, tally: &Tally, fault: CaptureFault) -> Result<(
     requires { CountsFit tally.now }
     ensures { OnOk result (text.new.items ≡ text.old.items ++ fault_line tally.now fault) }
 {
-    put(text, b"capture ")?;
-    put(text, fault_name(fault))?;
+    put_named(text, b"capture ", fault_name(fault))?;
     put(text, b" after ")?;
     put_counted(text, b"record ", tally.shown + tally.skipped)?;
-    put(text, b"\n")
+    put(text, b"\n")?;
+    Ok(())
 }
 
 /// Puts the line after a capture's records: how many there were, or the fault that ended them.

@@ -6,7 +6,7 @@ ghost use Rattle.capture_reader.specs.Records.{entry_of};
 ghost use Rattle.tool_text.specs.Text.{Keeps};
 ghost use Rattle.packet_show.specs.Network.{carried_by};
 ghost use Rattle.packet_show.specs.Text.{ack_text, code_text, kind_text};
-ghost use Rattle.packet_show.specs.Lines.{stamp_text, sender_text, receiver_text, header_text, sum_text, rest_text, packet_line, malformed_line, parts_by, words_text};
+ghost use Rattle.packet_show.specs.Lines.{body_text, stamp_text, sender_text, receiver_text, header_text, sum_text, rest_text, packet_line, malformed_line, parts_by, words_text};
 
 use crate::names::{sum_name, type_name};
 use crate::network::Datagram;
@@ -118,6 +118,17 @@ fn put_sum(text: &mut Vec<u8>, there: &Datagram<'_>) -> Result<(), NoMemory>
     put(text, b"unknown")
 }
 
+// Puts the options, and how many bytes of data are there.
+fn put_body(text: &mut Vec<u8>, packet: &Packet<'_>) -> Result<(), NoMemory>
+    requires { length packet.now.options.now ≤ 1008 }
+    ensures ok { OnOk result (text.new.items ≡ text.old.items ++ body_text (parts_by packet.now)) }
+    ensures front { Keeps text.old.items text.new.items }
+{
+    let is_data = packet.header.kind.packet_type().is_data();
+    put_options(text, packet.options, is_data)?;
+    put_counted(text, b" data ", packet.payload.len() as u64)
+}
+
 // Puts the options, how many bytes of data are there, and the verdict on the checksum.
 fn put_rest(text: &mut Vec<u8>, there: &Datagram<'_>, packet: &Packet<'_>) -> Result<(), NoMemory>
     requires low { 8 ≤ length there.now.bytes.now }
@@ -126,12 +137,7 @@ fn put_rest(text: &mut Vec<u8>, there: &Datagram<'_>, packet: &Packet<'_>) -> Re
     ensures ok { OnOk result (text.new.items ≡ text.old.items ++ rest_text (carried_by there.now) (parts_by packet.now)) }
     ensures front { Keeps text.old.items text.new.items }
 {
-    put_options(
-        text,
-        packet.options,
-        packet.header.kind.packet_type().is_data(),
-    )?;
-    put_counted(text, b" data ", packet.payload.len() as u64)?;
+    put_body(text, packet)?;
     put_sum(text, there)?;
     put(text, b"\n")
 }
@@ -167,12 +173,7 @@ pub fn put_words(text: &mut Vec<u8>, packet: &Packet<'_>) -> Result<(), NoMemory
     ensures front { Keeps text.old.items text.new.items }
 {
     put_header(text, &packet.header)?;
-    put_options(
-        text,
-        packet.options,
-        packet.header.kind.packet_type().is_data(),
-    )?;
-    put_counted(text, b" data ", packet.payload.len() as u64)
+    put_body(text, packet)
 }
 
 /// Puts the line of bytes that are no packet.
