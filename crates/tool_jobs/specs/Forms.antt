@@ -34,14 +34,18 @@ nonce_kind = number_kind 2
 abbrev pub index_kind : KindOfWords ℕ
 index_kind = number_kind (2 ^ 47)
 
+-- the index of a packet or of a report, and nothing after it
+abbrev pub index_row : WordRow ℕ
+index_row = row_as (λ s. s.0) (index_kind ▷ end_row)
+
 -- The rows after the first word, by the form that it names.
 abbrev pub ecn_rows : EcnForm → WordRow EcnEvent
 ecn_rows form.Send = row_as (λ s. event.Send (s.0 == 1)) (nonce_kind ▷ end_row)
-ecn_rows form.Deliver = row_as (λ s. event.Deliver s.0) (index_kind ▷ end_row)
-ecn_rows form.Mark = row_as (λ s. event.Mark s.0) (index_kind ▷ end_row)
+ecn_rows form.Deliver = row_as event.Deliver index_row
+ecn_rows form.Mark = row_as event.Mark index_row
 ecn_rows form.Report = row_as (λ s. event.Report) end_row
-ecn_rows form.Check = row_as (λ s. event.Check s.0) (index_kind ▷ end_row)
-ecn_rows form.Forge = row_as (λ s. event.Forge s.0) (index_kind ▷ end_row)
+ecn_rows form.Check = row_as event.Check index_row
+ecn_rows form.Forge = row_as event.Forge index_row
 
 -- the words of a line
 abbrev pub ecn_row : WordRow EcnEvent

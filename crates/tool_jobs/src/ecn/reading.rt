@@ -1,5 +1,6 @@
 //! Lines, read.
 ghost use Rattle.std.specs.Prelude.{◌≡◌, ◌≤◌, length, OnOk};
+ghost use Rattle.tool_text.specs.Left.{left_of};
 ghost use Rattle.tool_jobs.specs.Forms as spec;
 
 use crate::ecn::names::EcnForm;
@@ -15,6 +16,14 @@ type NonceWord = (Below<2>, ());
 // The index of a packet or a report.
 type IndexWord = (Below<INDEX_END>, ());
 
+// An index, and nothing after it.
+fn index(words: &mut Words<'_>) -> Result<u64, LineFault>
+    ensures { result ≡ spec.index_row.said (left_of words.old) }
+{
+    let (index, ()) = <IndexWord>::read(words)?;
+    Ok(index)
+}
+
 // The words of a line.
 struct EcnLine;
 
@@ -29,26 +38,14 @@ impl<'a> WordRow<'a> for EcnLine {
                 let (nonce, ()) = <NonceWord>::read(words)?;
                 Ok(EcnEvent::Send(nonce == 1))
             }
-            EcnForm::Deliver => {
-                let (index, ()) = <IndexWord>::read(words)?;
-                Ok(EcnEvent::Deliver(index))
-            }
-            EcnForm::Mark => {
-                let (index, ()) = <IndexWord>::read(words)?;
-                Ok(EcnEvent::Mark(index))
-            }
+            EcnForm::Deliver => Ok(EcnEvent::Deliver(index(words)?)),
+            EcnForm::Mark => Ok(EcnEvent::Mark(index(words)?)),
             EcnForm::Report => {
                 <() as WordRow>::read(words)?;
                 Ok(EcnEvent::Report)
             }
-            EcnForm::Check => {
-                let (index, ()) = <IndexWord>::read(words)?;
-                Ok(EcnEvent::Check(index))
-            }
-            EcnForm::Forge => {
-                let (index, ()) = <IndexWord>::read(words)?;
-                Ok(EcnEvent::Forge(index))
-            }
+            EcnForm::Check => Ok(EcnEvent::Check(index(words)?)),
+            EcnForm::Forge => Ok(EcnEvent::Forge(index(words)?)),
         }
     }
 }

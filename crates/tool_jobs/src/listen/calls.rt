@@ -6,7 +6,7 @@ ghost use Rattle.tool_jobs.specs.Calls as spec;
 use crate::listen::peers::PeerWord;
 use dccp_listener::Peer;
 use schedule_text::{FrameLine, FrameWords, LineFault, Timer, TimerWord};
-use tool_text::{Digits, HexOrDash, WordRow, Words, read_line};
+use tool_text::{Digits, HexOrDash, WordRow, Words, is_text, read_line};
 
 /// What happens to a peer. The digits of frames and data are decoded only when the bytes are needed.
 #[derive(Drop)]
@@ -69,13 +69,13 @@ impl<'a> WordRow<'a> for CallWords {
     fn read(words: &mut Words<'a>) -> Result<PeerCall<'a>, LineFault> {
         let mut all = *words;
         let first = words.next_word();
-        if first.text == b"send".as_slice() {
+        if is_text(first.text, b"send") {
             send(words)
-        } else if first.text == b"timer".as_slice() {
+        } else if is_text(first.text, b"timer") {
             timer(words)
-        } else if first.text == b"close".as_slice() {
+        } else if is_text(first.text, b"close") {
             close(words)
-        } else if first.text == b"abort".as_slice() {
+        } else if is_text(first.text, b"abort") {
             abort(words)
         } else {
             arrival(&mut all)

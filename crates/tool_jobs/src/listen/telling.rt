@@ -2,12 +2,10 @@
 ghost use Rattle.std.specs.Prelude.{◌≡◌, ◌++◌, [], codes, decimal, Ok, OnOk};
 ghost use Rattle.dccp_listener.specs.Calls.{seen_if};
 ghost use Rattle.dccp_listener.specs.Runs.{Stepped, told_of};
-ghost use Rattle.schedule_text.specs.Results.{HasItsData, result_text};
 ghost use Rattle.tool_jobs.specs.Peers.{peer_text};
 ghost use Rattle.tool_jobs.specs.Telling.{CanBeTold, answer_text, frame_to_peer};
 
 use crate::listen::peers::put_peer;
-use dccp_endpoint::Outcome;
 use dccp_listener::{Heard, NoFlow, Peer, Seen};
 use dccp_packets::Outbox;
 use schedule_text::put_result;
@@ -24,21 +22,13 @@ pub(crate) fn put_whom(text: &mut Vec<u8>, number: u64, peer: Peer) -> Result<()
     Ok(())
 }
 
-// Puts the outcome of a datagram of these bytes at an end.
-fn put_outcome(text: &mut Vec<u8>, bytes: &[u8], outcome: Outcome) -> Result<(), NoMemory>
-    requires { HasItsData bytes.now outcome }
-    ensures { OnOk result (text.new.items ≡ text.old.items ++ result_text bytes.now (Seen.Received outcome)) }
-{
-    put_result(text, bytes, &Seen::Received(outcome))
-}
-
 /// Puts the result of a datagram of these bytes.
 pub(crate) fn put_heard(text: &mut Vec<u8>, bytes: &[u8], heard: Heard) -> Result<(), NoMemory>
     requires { CanBeTold bytes.now (told_of (Ok heard)) }
     ensures { OnOk result (text.new.items ≡ text.old.items ++ answer_text bytes.now (told_of (Ok heard))) }
 {
     match heard {
-        Heard::Flow(outcome) => put_outcome(text, bytes, outcome),
+        Heard::Flow(outcome) => put_result(text, bytes, &Seen::Received(outcome)),
         Heard::Busy => put(text, b": busy\n"),
     }
 }
