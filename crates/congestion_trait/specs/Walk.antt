@@ -7,7 +7,7 @@ use Rattle.dccp_options.specs.Vectors.{VectorReport, is_received}
 use Rattle.congestion_trait.specs.declared.flight.Standing.{Standing}
 use Rattle.congestion_trait.specs.declared.flight.Standing.TheVariants.{Reported, Lost}
 use Rattle.congestion_trait.specs.declared.flight.FlightEntry.{FlightEntry}
-use Rattle.congestion_trait.specs.declared.walk.Walk.{Walk}
+use Rattle.congestion_trait.specs.declared.walk.FlightWalk.{FlightWalk}
 use Rattle.congestion_trait.specs.declared.walk.Counts.{Counts}
 use Rattle.congestion_trait.specs.Flight.{States, is_out, is_reported, after_report, acked_count, is_congested, reported_count, entry_reported, pipe_of}
 
@@ -41,7 +41,7 @@ was_out None = false
 was_out (Some entry) = is_out entry.standing
 
 -- the result of the entries from a place on, and the list by then
-pub record IsAlong (told : States) (mark : Option ℕ) (old : List FlightEntry) (index : ℕ) (now : List FlightEntry) (walk : Walk) : Type 0 where
+pub record IsAlong (told : States) (mark : Option ℕ) (old : List FlightEntry) (index : ℕ) (now : List FlightEntry) (walk : FlightWalk) : Type 0 where
   pub entries : now ≡ take index old ++ after_report told (drop index old)
   pub acked : walk.acked ≡ acked_count told (drop index old)
   pub congested : walk.congested ≡ is_congested told mark (drop index old)
