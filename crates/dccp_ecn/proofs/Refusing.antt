@@ -16,8 +16,12 @@ past-none [] index e = omega arith
 past-none (x ∷ xs) zero e = absurd (none-some x (sym e))
 past-none (x ∷ xs) (suc index) e = let rest = past-none xs index e in omega arith
 
+-- what takes place is not refused
+taken : {A B : Type 0} (x : A) (y : B) → Ok x ≡ Err y → ⊥
+taken x y e = cc e
+
 arrives-there : (w : EcnState) (a : Receipt) → (receipt_step w (Some a) ≡ Err fault.NoSuchFrame) → ⊥
-arrives-there w a e = cc e
+arrives-there w a e = taken _ _ e
 
 -- an arrival takes place where its packet is there, and is never too many
 arrives-lacks : (w : EcnState) (index : ℕ) (arriving : Option Bool → Option Receipt) → arriving None ≡ None
@@ -34,7 +38,7 @@ arrives-lacks w index arriving none some = by (slice_get w.sent index) refl
 
 arrives-room : (w : EcnState) (a : Option Receipt) → (receipt_step w a ≡ Err fault.Full) → ⊥
 arrives-room w None e = cc e
-arrives-room w (Some a) e = cc e
+arrives-room w (Some a) e = taken _ _ e
 
 checked-lacks : (w : EcnState) (check : EcnReport → Check) (index : ℕ)
     → (is_checked w check (slice_get w.reports index) ≡ Err fault.NoSuchFrame) ↔ (length w.reports ≤ index)
@@ -42,27 +46,27 @@ checked-lacks w check index = by (slice_get w.reports index) refl
   where
     by : (report : Option EcnReport) → slice_get w.reports index ≡ report → (is_checked w check report ≡ Err fault.NoSuchFrame) ↔ (length w.reports ≤ index)
     by None is = (λ _. past-none w.reports index is, λ _. refl)
-    by (Some report) is = let inside = slice_get_within w.reports index report is in (λ e. cc e, λ past. absurd (omega arith))
+    by (Some report) is = let inside = slice_get_within w.reports index report is in (λ e. absurd (taken _ _ e), λ past. absurd (omega arith))
 
 checked-room : (w : EcnState) (check : EcnReport → Check) (report : Option EcnReport) → (is_checked w check report ≡ Err fault.Full) → ⊥
 checked-room w check None e = cc e
-checked-room w check (Some report) e = cc e
+checked-room w check (Some report) e = taken _ _ e
 
 reports-there : (w : EcnState) (full : Bool) (greatest : Option ℕ) → ((if full then Err fault.Full else reports_to w greatest) ≡ Err fault.NoSuchFrame) → ⊥
 reports-there w true greatest e = cc e
 reports-there w false None e = cc e
-reports-there w false (Some ack) e = cc e
+reports-there w false (Some ack) e = taken _ _ e
 
 reports-room : (w : EcnState) (greatest : Option ℕ) → (reports_to w greatest ≡ Err fault.Full) → ⊥
 reports-room w None e = cc e
-reports-room w (Some ack) e = cc e
+reports-room w (Some ack) e = taken _ _ e
 
 pub lacks-index : (w : EcnState) (e : EcnEvent) → (happens_by w e ≡ Err fault.NoSuchFrame) ↔ LacksIndex w e
 lacks-index w (event.Send nonce) = (by (nat_le most_sent (length w.sent)), λ never. absurd never)
   where
     by : (full : Bool) → ((if full then Err fault.Full else Ok (ecn_step (after_send w nonce) seen.Sent)) ≡ Err fault.NoSuchFrame) → ⊥
     by true e = cc e
-    by false e = cc e
+    by false e = taken _ _ e
 lacks-index w (event.Deliver index) = arrives-lacks w index (unmarked_at index) refl (λ nonce. (_, refl))
 lacks-index w (event.Mark index) = arrives-lacks w index (marked_at index) refl (λ nonce. (_, refl))
 lacks-index w event.Report = (reports-there w (nat_le most_sent (length w.reports)) w.greatest, λ never. absurd never)
@@ -75,7 +79,7 @@ has-no-room w (event.Send nonce) = by (nat_le most_sent (length w.sent)) refl
     by : (full : Bool) → nat_le most_sent (length w.sent) ≡ full
         → ((if full then Err fault.Full else Ok (ecn_step (after_send w nonce) seen.Sent)) ≡ Err fault.Full) ↔ (2 ^ 46 ≤ length w.sent)
     by true is = (λ _. leb-true most_sent (length w.sent) is, λ _. refl)
-    by false is = (λ e. cc e, λ most. absurd (both_ways (nat_le most_sent (length w.sent)) is (le-leb most_sent (length w.sent) most)))
+    by false is = (λ e. absurd (taken _ _ e), λ most. absurd (both_ways (nat_le most_sent (length w.sent)) is (le-leb most_sent (length w.sent) most)))
 has-no-room w (event.Deliver index) = (arrives-room w (unmarked_at index (slice_get w.sent index)), λ never. absurd never)
 has-no-room w (event.Mark index) = (arrives-room w (marked_at index (slice_get w.sent index)), λ never. absurd never)
 has-no-room w event.Report = by (nat_le most_sent (length w.reports)) refl
