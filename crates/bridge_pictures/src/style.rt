@@ -5,31 +5,13 @@ ghost use Rattle.bridge_pictures.specs.Style as spec;
 use seq_circle::NoMemory;
 use tool_text::put;
 
-// The arrow heads.
-const HEADS: &[u8] =
-    b"<defs><marker id='head' viewBox='0 0 8 8' refX='8' refY='4' markerWidth='7' markerHeight='7' orient='auto'><path d='M0 0L8 4L0 8z' class='tip'/></marker><marker id='cross' viewBox='0 0 8 8' refX='4' refY='4' markerWidth='8' markerHeight='8' orient='auto'><path d='M1 1L7 7M7 1L1 7' class='x'/></marker></defs>\n";
-
-// The colours, on light and on dark.
-const COLOURS: &[u8] =
-    b"<style>.sheet{fill:#fff}text{font:12px monospace;fill:#222}.left{text-anchor:end}.name{text-anchor:middle;font-weight:bold}.peer{text-anchor:end;font-weight:bold}line{stroke:#555;stroke-width:1.4}.took,.dropped,.synced,.was-reset,.sent-reset,.again,.sent,.late{marker-end:url(#head)}.tip{fill:#555}.dropped{stroke:#999;stroke-dasharray:6 4}.synced{stroke:#c60}.was-reset,.sent-reset{stroke:#c22}.again,.late{stroke:#06c;stroke-dasharray:2 3}.lost{stroke:#c22;stroke-dasharray:6 4;marker-end:url(#cross)}.x{stroke:#c22;stroke-width:1.4;fill:none}.CLOSED,.LISTEN,.REQUEST,.RESPOND,.PARTOPEN,.OPEN,.CLOSEREQ,.CLOSING,.TIMEWAIT{stroke-width:5}.CLOSED{stroke:#bbb}.LISTEN{stroke:#777}.REQUEST{stroke:#e8a000}.RESPOND{stroke:#b060d0}.PARTOPEN{stroke:#70b8e8}.OPEN{stroke:#2a9d4a}.CLOSEREQ{stroke:#d08060}.CLOSING{stroke:#c8503c}.TIMEWAIT{stroke:#8a6040}@media (prefers-color-scheme:dark){.sheet{fill:#16181c}text{fill:#ddd}line{stroke:#aaa}.tip{fill:#aaa}.synced{stroke:#f90}.was-reset,.sent-reset,.lost,.x{stroke:#f66}.again,.late{stroke:#6af}.CLOSED{stroke:#666}.LISTEN{stroke:#999}}</style><rect class='sheet' width='100%' height='100%'/>\n";
+// The arrow heads, the colours on light and on dark, and the sheet.
+const STYLE: &[u8] =
+    b"<defs><marker id='head' viewBox='0 0 8 8' refX='8' refY='4' markerWidth='7' markerHeight='7' orient='auto'><path d='M0 0L8 4L0 8z' class='tip'/></marker><marker id='cross' viewBox='0 0 8 8' refX='4' refY='4' markerWidth='8' markerHeight='8' orient='auto'><path d='M1 1L7 7M7 1L1 7' class='x'/></marker></defs>\n<style>.sheet{fill:#fff}text{font:12px monospace;fill:#222}.left{text-anchor:end}.name{text-anchor:middle;font-weight:bold}.peer{text-anchor:end;font-weight:bold}line{stroke:#555;stroke-width:1.4}.took,.dropped,.synced,.was-reset,.sent-reset,.again,.sent,.late{marker-end:url(#head)}.tip{fill:#555}.dropped{stroke:#999;stroke-dasharray:6 4}.synced{stroke:#c60}.was-reset,.sent-reset{stroke:#c22}.again,.late{stroke:#06c;stroke-dasharray:2 3}.lost{stroke:#c22;stroke-dasharray:6 4;marker-end:url(#cross)}.x{stroke:#c22;stroke-width:1.4;fill:none}.CLOSED,.LISTEN,.REQUEST,.RESPOND,.PARTOPEN,.OPEN,.CLOSEREQ,.CLOSING,.TIMEWAIT{stroke-width:5}.CLOSED{stroke:#bbb}.LISTEN{stroke:#777}.REQUEST{stroke:#e8a000}.RESPOND{stroke:#b060d0}.PARTOPEN{stroke:#70b8e8}.OPEN{stroke:#2a9d4a}.CLOSEREQ{stroke:#d08060}.CLOSING{stroke:#c8503c}.TIMEWAIT{stroke:#8a6040}@media (prefers-color-scheme:dark){.sheet{fill:#16181c}text{fill:#ddd}line{stroke:#aaa}.tip{fill:#aaa}.synced{stroke:#f90}.was-reset,.sent-reset,.lost,.x{stroke:#f66}.again,.late{stroke:#6af}.CLOSED{stroke:#666}.LISTEN{stroke:#999}}</style><rect class='sheet' width='100%' height='100%'/>\n";
 
 // What the colours of lines mean, at the top.
 const KEY: &[u8] =
     b"<line class='CLOSED' x1='20' y1='20' x2='44' y2='20'/><text x='50' y='24'>CLOSED</text><line class='LISTEN' x1='130' y1='20' x2='154' y2='20'/><text x='160' y='24'>LISTEN</text><line class='REQUEST' x1='240' y1='20' x2='264' y2='20'/><text x='270' y='24'>REQUEST</text><line class='RESPOND' x1='350' y1='20' x2='374' y2='20'/><text x='380' y='24'>RESPOND</text><line class='PARTOPEN' x1='460' y1='20' x2='484' y2='20'/><text x='490' y='24'>PARTOPEN</text><line class='OPEN' x1='570' y1='20' x2='594' y2='20'/><text x='600' y='24'>OPEN</text><line class='CLOSEREQ' x1='680' y1='20' x2='704' y2='20'/><text x='710' y='24'>CLOSEREQ</text><line class='CLOSING' x1='790' y1='20' x2='814' y2='20'/><text x='820' y='24'>CLOSING</text><line class='TIMEWAIT' x1='900' y1='20' x2='924' y2='20'/><text x='930' y='24'>TIMEWAIT</text>\n";
-
-#[tactic(auto, unfolding(crate::specs::Style::heads))]
-fn put_heads(text: &mut Vec<u8>) -> Result<(), NoMemory>
-    ensures { OnOk result (text.new.items ≡ text.old.items ++ spec.heads) }
-{
-    put(text, HEADS)
-}
-
-#[tactic(auto, unfolding(crate::specs::Style::colours))]
-fn put_colours(text: &mut Vec<u8>) -> Result<(), NoMemory>
-    ensures { OnOk result (text.new.items ≡ text.old.items ++ spec.colours) }
-{
-    put(text, COLOURS)
-}
 
 /// Puts what the colours of lines mean. NoMemory comes if no memory was left, here and below.
 #[tactic(auto, unfolding(crate::specs::Style::key))]
@@ -44,6 +26,5 @@ pub(crate) fn put_key(text: &mut Vec<u8>) -> Result<(), NoMemory>
 pub(crate) fn put_style(text: &mut Vec<u8>) -> Result<(), NoMemory>
     ensures { OnOk result (text.new.items ≡ text.old.items ++ spec.style) }
 {
-    put_heads(text)?;
-    put_colours(text)
+    put(text, STYLE)
 }

@@ -46,21 +46,13 @@ fn put_column_words(text: &mut Vec<u8>, words: &[u8], counts: Counts) -> Result<
     put_counted(text, b" flight ", u64::from(counts.flight))
 }
 
-// Puts how many packets the tallest bar has.
-#[tactic(auto, unfolding(crate::specs::Chart::tallest_words))]
-fn put_tallest(text: &mut Vec<u8>, tallest: u32) -> Result<(), NoMemory>
-    ensures { OnOk result (text.new.items ≡ text.old.items ++ spec.tallest_words tallest) }
-{
-    put_counted(text, b": packets of data, up to ", u64::from(tallest))
-}
-
 // Puts what a chart is called, and how many packets its tallest bar has.
 #[tactic(auto, unfolding(crate::specs::Chart::panel_words))]
 fn put_panel_words(text: &mut Vec<u8>, name: &[u8], tallest: u32) -> Result<(), NoMemory>
     ensures { OnOk result (text.new.items ≡ text.old.items ++ spec.panel_words name.now tallest) }
 {
     put(text, name)?;
-    put_tallest(text, tallest)
+    put_counted(text, b": packets of data, up to ", u64::from(tallest))
 }
 
 // Puts the line below the bars.
