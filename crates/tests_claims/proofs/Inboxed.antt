@@ -1,5 +1,5 @@
 -- What the laws say about a pair that a schedule with inboxes reached, and about outcomes without their place.
-use Rattle.std.proofs.Common.{◌≡◌, refl, sym, subst, ap, ◌∙◌, ℕ, Some, None}
+use Rattle.std.proofs.Common.{◌≡◌, ◌⊎◌, inl, inr, refl, sym, subst, ap, ◌∙◌, ℕ, Some, None}
 use Rattle.congestion_trait.specs.Control.{Control}
 use Rattle.dccp_states.specs.declared.outcome.Outcome.{Outcome}
 use Rattle.dccp_states.specs.declared.outcome.Outcome.TheVariants as outcome
@@ -36,27 +36,22 @@ module _ {C : Type 0} (control : Control C) where
       (r.there, r.back)
       side)
 
+-- Only the place of data is left out of an outcome.
+all-but-the-place : (o : Outcome) → (o ≡ without_place o) ⊎ ((place : ℕ × ℕ) × (o ≡ outcome.Took (Some place)))
+all-but-the-place (outcome.Took (Some place)) = inr (place, refl)
+all-but-the-place (outcome.Took None) = inl refl
+all-but-the-place (outcome.Dropped why) = inl refl
+all-but-the-place (outcome.Synced number) = inl refl
+all-but-the-place (outcome.WasReset code) = inl refl
+all-but-the-place (outcome.SentReset code detail) = inl refl
+
 -- An outcome is dropped, took nothing or took data, if another is that differs only in the place of its data.
 pub dropped-so : (o : Outcome) (why : Why) → without_place o ≡ outcome.Dropped why → o ≡ outcome.Dropped why
-dropped-so (outcome.Dropped other) why same = same
-dropped-so (outcome.Took None) why same = cc same
-dropped-so (outcome.Took (Some place)) why same = cc same
-dropped-so (outcome.Synced number) why same = cc same
-dropped-so (outcome.WasReset code) why same = cc same
-dropped-so (outcome.SentReset code detail) why same = cc same
+dropped-so o why same =
+    elim (all-but-the-place o) [ inl is ↦ is ∙ same | inr took ↦ cc (sym same ∙ ap without_place took.1) ]
 
 pub quiet-so : (o : Outcome) → without_place o ≡ outcome.Took None → o ≡ outcome.Took None
-quiet-so (outcome.Took None) same = refl
-quiet-so (outcome.Took (Some place)) same = cc same
-quiet-so (outcome.Dropped why) same = cc same
-quiet-so (outcome.Synced number) same = cc same
-quiet-so (outcome.WasReset code) same = cc same
-quiet-so (outcome.SentReset code detail) same = cc same
+quiet-so o same = elim (all-but-the-place o) [ inl is ↦ is ∙ same | inr took ↦ cc (sym same ∙ ap without_place took.1) ]
 
 pub delivered-so : (o : Outcome) → without_place o ≡ outcome.Took (Some (0, 0)) → (other : ℕ × ℕ) × (o ≡ outcome.Took (Some other))
-delivered-so (outcome.Took (Some other)) same = (other, refl)
-delivered-so (outcome.Took None) same = cc same
-delivered-so (outcome.Dropped why) same = cc same
-delivered-so (outcome.Synced number) same = cc same
-delivered-so (outcome.WasReset code) same = cc same
-delivered-so (outcome.SentReset code detail) same = cc same
+delivered-so o same = elim (all-but-the-place o) [ inl is ↦ ((0, 0), is ∙ same) | inr took ↦ took ]

@@ -5,3 +5,4 @@ pub mod Ending
 pub mod Received
 pub mod CookieRead
 pub mod Inboxed
+pub mod RowsInboxed

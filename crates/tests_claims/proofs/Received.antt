@@ -29,25 +29,6 @@ record IsSyncing (e : EndState) (f : Effect) : Type 0 where
   still : f.turns ≡ []
   said : IsSaid f.sending
 
-syncing : (e : EndState) (bytes : List ℕ) (o : Outcome) (cause : HasCause e bytes o) (f : Effect) (turns : AreTurns e (Arrives bytes) f.hearing f.turns)
-    → HasForm e bytes o cause f turns → (number : ℕ) → o ≡ Synced number → IsSyncing e f
-syncing e bytes (Synced told) (OutOfWindow a came check bad) f turns form number is =
-    record {
-      stays = ap (λ (x : Effect). x.phase) form;
-      still = ap (λ (x : Effect). x.turns) form;
-      said = subst (λ (x : Effect). IsSaid x.sending) (sym form) tt;
-    }
-syncing e bytes (Synced told) (Unexpected a entered valid out same) f turns form number is =
-    record {
-      stays = ap (λ (x : Effect). x.phase) form;
-      still = ap (λ (x : Effect). x.turns) form;
-      said = subst (λ (x : Effect). IsSaid x.sending) (sym form) tt;
-    }
-syncing e bytes (Dropped why) cause f turns form number is = cc is
-syncing e bytes (WasReset code) cause f turns form number is = cc is
-syncing e bytes (SentReset code detail) cause f turns form number is = cc is
-syncing e bytes (Took delivered) cause f turns form number is = cc is
-
 reset-said : (e : EndState) (bytes : List ℕ) (fault : Fault) (why : IsReset e bytes fault) → IsSaid (effect_of_reset e bytes fault why).sending
 reset-said e bytes _ (NoConnection a came is) = tt
 reset-said e bytes _ (OtherService a came is other) = tt
@@ -56,37 +37,51 @@ reset-said e bytes _ (WrongService a entered valid expected other) = tt
 reset-said e bytes _ (Faulted a entered first admitted is) = tt
 reset-said e bytes _ (AnswersClose a entered h to admitted is row) = tt
 
-resetting : (e : EndState) (bytes : List ℕ) (o : Outcome) (cause : HasCause e bytes o) (f : Effect) (turns : AreTurns e (Arrives bytes) f.hearing f.turns)
-    → HasForm e bytes o cause f turns → (code : ℕ) (detail : List ℕ) → o ≡ SentReset code detail → IsSaid f.sending
-resetting e bytes (SentReset code detail) cause f turns form others_code others_detail is =
-    subst (λ (x : Effect). IsSaid x.sending) (sym form) (reset-said e bytes cause.fault cause.why)
-resetting e bytes (Synced told) cause f turns form code detail is = cc is
-resetting e bytes (Dropped why) cause f turns form code detail is = cc is
-resetting e bytes (WasReset old) cause f turns form code detail is = cc is
-resetting e bytes (Took delivered) cause f turns form code detail is = cc is
-
 -- an acknowledgement is due if nothing goes out
 owed-or-said : (owed : Bool) (sending : Transmission) → owed ≡ not (is_acking_sent sending) → (owed ≡ true) ⊎ IsSaid sending
 owed-or-said owed Silent is = inl is
 owed-or-said owed (Next packet) is = inr tt
 owed-or-said owed (WithoutConnection number packet) is = inr tt
 
-taking : (e : EndState) (bytes : List ℕ) (o : Outcome) (cause : HasCause e bytes o) (f : Effect) (turns : AreTurns e (Arrives bytes) f.hearing f.turns)
-    → HasForm e bytes o cause f turns → (place : Option (ℕ × ℕ)) → o ≡ Took place → (f.owed ≡ true) ⊎ IsSaid f.sending
-taking e bytes (Took delivered) cause f turns form place is = owed-or-said f.owed f.sending form.owes
-taking e bytes (SentReset code detail) cause f turns form place is = cc is
-taking e bytes (Synced told) cause f turns form place is = cc is
-taking e bytes (Dropped why) cause f turns form place is = cc is
-taking e bytes (WasReset code) cause f turns form place is = cc is
+-- what an outcome says about what goes out
+abbrev Tells : EndState → Effect → Outcome → Type 0
+Tells e f (Synced number) = IsSyncing e f
+Tells e f (SentReset code detail) = IsSaid f.sending
+Tells e f (Took delivered) = (f.owed ≡ true) ⊎ IsSaid f.sending
+Tells e f (Dropped why) = Unit {0}
+Tells e f (WasReset code) = Unit {0}
+
+telling : (e : EndState) (bytes : List ℕ) (o : Outcome) (cause : HasCause e bytes o) (f : Effect) (turns : AreTurns e (Arrives bytes) f.hearing f.turns)
+    → HasForm e bytes o cause f turns → Tells e f o
+telling e bytes (Synced told) (OutOfWindow a came check bad) f turns form =
+    record {
+      stays = ap (λ (x : Effect). x.phase) form;
+      still = ap (λ (x : Effect). x.turns) form;
+      said = subst (λ (x : Effect). IsSaid x.sending) (sym form) tt;
+    }
+telling e bytes (Synced told) (Unexpected a entered valid out same) f turns form =
+    record {
+      stays = ap (λ (x : Effect). x.phase) form;
+      still = ap (λ (x : Effect). x.turns) form;
+      said = subst (λ (x : Effect). IsSaid x.sending) (sym form) tt;
+    }
+telling e bytes (SentReset code detail) cause f turns form =
+    subst (λ (x : Effect). IsSaid x.sending) (sym form) (reset-said e bytes cause.fault cause.why)
+telling e bytes (Took delivered) cause f turns form = owed-or-said f.owed f.sending form.owes
+telling e bytes (Dropped why) cause f turns form = tt
+telling e bytes (WasReset code) cause f turns form = tt
 
 module _ (e : EndState) (bytes : List ℕ) (o : Outcome) (after : EndState) (frame : Option Outgoing) (calls : List Call)
     (has : HasEffectOf e bytes o after frame calls) where
+  told : (other : Outcome) → o ≡ other → Tells e has.effect other
+  told other is = subst (Tells e has.effect) is (telling e bytes o has.cause has.effect has.because.turns has.form)
+
   goes-out : IsSaid has.effect.sending → (out : Outgoing) × (frame ≡ Some out)
   goes-out said = let some = said-some e has.effect has.effect.sending said in (some.0, has.frame_is ∙ some.1)
 
   pub synced-so : (number : ℕ) → o ≡ Synced number → ((out : Outgoing) × (frame ≡ Some out)) × ((after.phase ≡ e.phase) × (after.rows ≡ e.rows))
   synced-so number is =
-      let s = syncing e bytes o has.cause has.effect has.because.turns has.form number is in (
+      let s = told (Synced number) is in (
         goes-out s.said,
         (
           ap (λ (x : EndState). x.phase) has.after_is ∙ s.stays,
@@ -95,11 +90,11 @@ module _ (e : EndState) (bytes : List ℕ) (o : Outcome) (after : EndState) (fra
       )
 
   pub reset-so : (code : ℕ) (detail : List ℕ) → o ≡ SentReset code detail → (out : Outgoing) × (frame ≡ Some out)
-  reset-so code detail is = goes-out (resetting e bytes o has.cause has.effect has.because.turns has.form code detail is)
+  reset-so code detail is = goes-out (told (SentReset code detail) is)
 
   pub taken-so : (place : Option (ℕ × ℕ)) → o ≡ Took place → (after.owed ≡ true) ⊎ ((out : Outgoing) × (frame ≡ Some out))
   taken-so place is =
-      elim (taking e bytes o has.cause has.effect has.because.turns has.form place is) [
+      elim (told (Took place) is) [
         | inl owed ↦ inl (ap (λ (x : EndState). x.owed) has.after_is ∙ owed)
         | inr said ↦ inr (goes-out said)
       ]
