@@ -3,7 +3,7 @@ ghost use Rattle.std.specs.Prelude.{◌≡◌, ◌++◌, OnOk};
 ghost use Rattle.tool_text.specs.Refusals.{refusal_line};
 ghost use Rattle.tool_text.specs.Jobs.{too_long};
 
-use crate::text::{put, put_number};
+use crate::text::{put, put_counted, put_named};
 use crate::words::{LineFault, LineWhy, line_why_name};
 use seq_circle::NoMemory;
 
@@ -29,11 +29,9 @@ pub struct LineRefusal {
 pub fn put_refusal(text: &mut Vec<u8>, number: u64, fault: LineFault) -> Result<(), NoMemory>
     ensures { OnOk result (text.new.items ≡ text.old.items ++ refusal_line number fault) }
 {
-    put(text, b"line ")?;
-    put_number(text, number)?;
-    put(text, b" column ")?;
-    put_number(text, u64::from(fault.column))?;
-    put(text, b": ")?;
-    put(text, line_why_name(fault.why))?;
-    put(text, b"\n")
+    put_counted(text, b"line ", number)?;
+    put_counted(text, b" column ", u64::from(fault.column))?;
+    put_named(text, b": ", line_why_name(fault.why))?;
+    put(text, b"\n")?;
+    Ok(())
 }

@@ -8,6 +8,7 @@ ghost use Rattle.tool_text.specs.Digits.{digits_flaw};
 ghost use Rattle.tool_text.specs.Left.{word_of};
 
 use crate::numbers::number_up_to;
+use crate::text::is_text;
 use crate::words::digits::{Digits, flaw_in_digits};
 use crate::words::faults::{LineFault, LineWhy};
 use crate::words::split::Word;
@@ -134,7 +135,7 @@ impl<'a> WordKind<'a> for HexOrDash {
     ghost reads = { spec.dash_kind.reads };
 
     fn read(word: &'a [u8]) -> Result<Digits<'a>, Flaw> {
-        if word == b"-".as_slice() {
+        if is_text(word, b"-") {
             return Ok(Digits::none());
         }
         Hex::read(word)
