@@ -41,8 +41,7 @@ fn put_sender(
     put_counted(text, b" flow ", flow)?;
     put(text, b" ")?;
     put_from(text, &there.pseudo)?;
-    put_counted(text, b" ", u64::from(port))?;
-    Ok(())
+    put_counted(text, b" ", u64::from(port))
 }
 
 // Puts the end that receives the packet.
@@ -52,8 +51,7 @@ fn put_receiver(text: &mut Vec<u8>, there: &Datagram<'_>, port: u16) -> Result<(
 {
     put(text, b" > ")?;
     put_to(text, &there.pseudo)?;
-    put_counted(text, b" ", u64::from(port))?;
-    Ok(())
+    put_counted(text, b" ", u64::from(port))
 }
 
 fn put_ack(text: &mut Vec<u8>, ack: Number) -> Result<(), NoMemory>

@@ -7,7 +7,7 @@ use crate::numbers::{feature_of, frame_index, schedule_version, sequence_number_
 use crate::{LineWhy, Timer, Values};
 use feature_lists::{Feature, Place};
 use seq_circle::Seq48;
-use tool_text::{Flag, Flaw, WordKind, found_or};
+use tool_text::{Flag, Flaw, WordKind, found_or, is_text};
 use world_events::Side;
 
 /// The first word of a line.
@@ -153,6 +153,6 @@ impl Flag for Mandatory {
     ghost name = { codes "mandatory" };
 
     fn is_name(word: &[u8]) -> bool {
-        word == b"mandatory".as_slice()
+        is_text(word, b"mandatory")
     }
 }

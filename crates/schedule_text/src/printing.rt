@@ -201,8 +201,7 @@ fn put_reset(text: &mut Vec<u8>, code: u8, detail: &[u8; 3]) -> Result<(), NoMem
     ensures front { Keeps text.old.items text.new.items }
 {
     put_counted(text, b"sent reset ", u64::from(code))?;
-    put_detail(text, detail)?;
-    Ok(())
+    put_detail(text, detail)
 }
 
 fn put_data(text: &mut Vec<u8>, bytes: &[u8]) -> Result<(), NoMemory>
@@ -210,8 +209,7 @@ fn put_data(text: &mut Vec<u8>, bytes: &[u8]) -> Result<(), NoMemory>
     ensures front { Keeps text.old.items text.new.items }
 {
     put(text, b"took data ")?;
-    put_hex_or_dash(text, bytes)?;
-    Ok(())
+    put_hex_or_dash(text, bytes)
 }
 
 fn put_taken(
@@ -275,8 +273,7 @@ pub fn put_result(text: &mut Vec<u8>, input: &[u8], seen: &Seen) -> Result<(), N
 {
     put(text, b": ")?;
     put_seen(text, input, seen)?;
-    put(text, b"\n")?;
-    Ok(())
+    put(text, b"\n")
 }
 
 fn put_line(
@@ -291,8 +288,7 @@ fn put_line(
     ensures front { Keeps text.old.items text.new.items }
 {
     put_told(text, line, event)?;
-    put_result(text, input, seen)?;
-    Ok(())
+    put_result(text, input, seen)
 }
 
 /// Appends an event as it is in its line, without a newline (own). Early data, which have no line, get the word
