@@ -176,15 +176,6 @@ fn put_names(text: &mut Vec<u8>, subject: Subject) -> Result<(), NoMemory>
     }
 }
 
-fn next_row(row: u32) -> u32
-    ensures { result ≡ spec.next_row row }
-{
-    if row < u32::MAX {
-        return row + 1;
-    }
-    row
-}
-
 impl Ladder {
     /// Before the first row.
     pub(crate) fn new(alloc: Global) -> Ladder
@@ -222,7 +213,7 @@ impl Ladder {
     pub(crate) fn tell(&mut self, side: Side, words: &[u8]) -> Result<(), NoMemory>
         ensures { OnOk result (self.new ≡ spec.row_told self.old side words.now) }
     {
-        self.rows = next_row(self.rows);
+        self.rows = self.rows.saturating_add(1);
         put_beside(&mut self.body, side, self.rows, words)
     }
 
@@ -410,7 +401,7 @@ impl Ladder {
     fn put_rest(&self, text: &mut Vec<u8>) -> Result<(), NoMemory>
         ensures { OnOk result (text.new.items ≡ text.old.items ++ spec.last_parts self.now) }
     {
-        let bottom = next_row(self.rows);
+        let bottom = self.rows.saturating_add(1);
         match self.subject {
             Subject::BothEnds => self.put_both_ends(text, bottom),
             Subject::OneEnd => {

@@ -7,7 +7,7 @@ use crate::windows::bars::{EDGE, packets_high, put_bar, put_downward, put_group_
 use seq_circle::NoMemory;
 use std::alloc::Global;
 use std::marker::Model;
-use tool_text::{put, put_counted};
+use tool_text::{put, put_counted, put_number};
 
 // A chart has this much room above its tallest bar.
 const ROOM: u64 = 14;
@@ -52,7 +52,8 @@ fn put_panel_words(text: &mut Vec<u8>, name: &[u8], tallest: u32) -> Result<(), 
     ensures { OnOk result (text.new.items ≡ text.old.items ++ spec.panel_words name.now tallest) }
 {
     put(text, name)?;
-    put_counted(text, b": packets of data, up to ", u64::from(tallest))
+    put(text, b": packets of data, up to ")?;
+    put_number(text, u64::from(tallest))
 }
 
 // Puts the line below the bars.

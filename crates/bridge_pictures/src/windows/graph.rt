@@ -58,15 +58,6 @@ impl Model for Graph {
     ghost view = { λ g. record { columns = g.columns; client = g.client; server = g.server; axis = g.axis.items; notes = g.notes; told = g.told.items } };
 }
 
-fn one_further(count: u32) -> u32
-    ensures { result ≡ spec.one_further count }
-{
-    if count < u32::MAX {
-        return count + 1;
-    }
-    count
-}
-
 // How far a note lies below the first.
 fn note_at(notes: u32) -> u64
     ensures value { result ≡ spec.note_at notes }
@@ -133,7 +124,7 @@ impl Graph {
     ) -> Result<(), NoMemory>
         ensures { OnOk result (self.new ≡ spec.counts_drawn self.old client server words.now) }
     {
-        self.columns = one_further(self.columns);
+        self.columns = self.columns.saturating_add(1);
         self.client.draw(self.alloc, self.columns, client, words)?;
         self.server.draw(self.alloc, self.columns, server, words)?;
         put_axis(self.alloc, &mut self.axis, self.columns)
@@ -149,7 +140,7 @@ impl Graph {
             y: note_at(self.notes),
         };
         put_words(&mut self.told, b"note", at, words)?;
-        self.notes = one_further(self.notes);
+        self.notes = self.notes.saturating_add(1);
         Ok(())
     }
 
@@ -174,7 +165,7 @@ impl Graph {
         ensures value { result ≡ spec.right_of self.now }
         ensures low { result ≤ 2 ^ 36 + 6 }
     {
-        column_at(one_further(self.columns))
+        column_at(self.columns.saturating_add(1))
     }
 
     // The size of the picture.
