@@ -56,7 +56,7 @@ pub fn covered(bytes: &[u8]) -> Option<usize>
 fn add_covered(start: u64, bytes: &[u8], covered: usize) -> u64
     requires whole { 8 ≤ length bytes.now }
     requires inside { covered ≤ length bytes.now }
-    requires room { start + 2 ^ 39 * length bytes.now < 2 ^ 64 }
+    requires room { start + 2 ^ 42 * length bytes.now < 2 ^ 64 }
     ensures { IsSameSum result (start + word_sum (take covered (with_checksum 0 bytes.now))) }
 {
     if covered < AFTER_CHECKSUM {

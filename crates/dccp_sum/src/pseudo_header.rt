@@ -36,7 +36,7 @@ impl Pseudo {
 // The sum of the words of two addresses of IPv4.
 fn add_v4(from: [u8; 4], to: [u8; 4]) -> u64
     ensures value { IsSameSum result (word_sum from + word_sum to) }
-    ensures bound { result ≤ 2 ^ 43 }
+    ensures bound { result ≤ 2 ^ 46 }
     ensures from_length { length from ≡ 4 }
     ensures to_length { length to ≡ 4 }
 {
@@ -46,7 +46,7 @@ fn add_v4(from: [u8; 4], to: [u8; 4]) -> u64
 // The sum of the words of two addresses of IPv6.
 fn add_v6(from: [u8; 16], to: [u8; 16]) -> u64
     ensures value { IsSameSum result (word_sum from + word_sum to) }
-    ensures bound { result ≤ 2 ^ 43 }
+    ensures bound { result ≤ 2 ^ 46 }
     ensures from_length { length from ≡ 16 }
     ensures to_length { length to ≡ 16 }
 {
@@ -57,7 +57,7 @@ fn add_v6(from: [u8; 16], to: [u8; 16]) -> u64
 pub(crate) fn add_pseudo_header(pseudo: &Pseudo, size: u64) -> u64
     requires { size < 2 ^ 16 }
     ensures value { IsSameSum result (word_sum (pseudo_header pseudo.now size)) }
-    ensures bound { result ≤ 2 ^ 44 }
+    ensures bound { result ≤ 2 ^ 47 }
     ensures whole_words { length (pseudo_header pseudo.now size) % 2 ≡ 0 }
 {
     let addresses = match *pseudo {
