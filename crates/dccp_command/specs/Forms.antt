@@ -65,7 +65,7 @@ OnRead form told Holds = reads_input form ≡ true → (bytes : List ℕ) → to
 abbrev pub OnInput : List (String Global) → Option (List ℕ) → (Form → List ℕ → Type 0) → Type 0
 OnInput words told Holds = (form : Form) → form_of words ≡ Some form → OnRead form told (Holds form)
 
--- What a form keeps of all that happens to the two ends of `run`: each event took place in a safe world and left a safe one.
+-- With `run` each event of these bytes took place in a safe world and left a safe one. Other forms have no such world.
 abbrev pub KeepsSafe : Form → List ℕ → Type 0
 KeepsSafe form.Run bytes = SafeThroughout bytes
 KeepsSafe _ bytes = Unit {0}
