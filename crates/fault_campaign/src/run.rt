@@ -37,10 +37,13 @@ impl Model for OngoingRun {
 }
 
 impl OngoingRun {
+    /// The run of a seed before its first event, which opens the connection (own). It takes the memory of two ends;
+    /// NoMemory if there is none.
     #[tactic(auto, unfolding(crate::specs::Seeded::begun_run))]
-    fn new(alloc: Global, mut words: Pcg32) -> Result<OngoingRun, NoMemory>
-        ensures value { IfOk result (λ run. run ≡ begun_run words) }
+    pub fn of_seed(alloc: Global, seed: u64) -> Result<OngoingRun, NoMemory>
+        ensures { IfOk result (λ run. run ≡ begun_run (generator seed)) }
     {
+        let mut words = generator(seed);
         let client = usual_from(Role::Client, initial_number(&mut words));
         let server = usual_from(Role::Server, initial_number(&mut words));
         let for_client = Kinds::new(alloc)?;
@@ -51,14 +54,6 @@ impl OngoingRun {
             world,
             report: Report::nothing(),
         })
-    }
-
-    /// The run of a seed before its first event, which opens the connection (own). It takes the memory of two ends;
-    /// NoMemory if there is none.
-    pub fn of_seed(alloc: Global, seed: u64) -> Result<OngoingRun, NoMemory>
-        ensures { IfOk result (λ run. run ≡ begun_run (generator seed)) }
-    {
-        OngoingRun::new(alloc, generator(seed))
     }
 
     /// Draws the next event, which depends on how many frames there are (own). It has not happened yet.
@@ -117,13 +112,6 @@ impl OngoingRun {
             self.go_on(again)?;
         }
         Ok(())
-    }
-
-    fn open(&mut self) -> Result<(), NoMemory>
-        requires { size self.old.report < 2 ^ 62 }
-        ensures { OnOk result (self.new ≡ played self.old Event.Open) }
-    {
-        self.play(&Event::Open)
     }
 
     // Plays the event of two words. The event is changed in place, since it would move with its room for data.
@@ -208,7 +196,7 @@ impl OngoingRun {
         ensures { (seed : ℕ) → self.old ≡ begun_run (generator seed)
             → IfOk result (λ report. report ≡ seeded_report seed events) }
     {
-        self.open()?;
+        self.play(&Event::Open)?;
         self.go_on_with(again, events - 1)?;
         Ok(self.report(events))
     }
