@@ -4,7 +4,8 @@ use Rattle.ccid_two.specs.Kinds.{Both, kinds_control}
 use Rattle.dccp_uses.specs.Alarms.{has_run_out}
 use Rattle.dccp_uses.specs.Holding.{HoldingState}
 use Rattle.dccp_uses.specs.Sessions.{NoneIsDue, rings_due, rings_each_due, stands_still}
-use Rattle.dccp_uses.specs.Timed.{TimedState, due_alarm, due_told, every_due, first_due_of}
+use Rattle.dccp_uses.specs.Timed.{TimedState, due_told}
+use Rattle.dccp_uses.specs.Upkeeps.{due_alarm, every_due, first_due}
 use Rattle.dccp_uses.specs.declared.timed_end.Due.{Due}
 use Rattle.dccp_uses.specs.declared.timed_end.Due.TheVariants as due
 use Rattle.dccp_uses.proofs.Dues.{nothing_due, other_rests, rung_beside, rung_in_order, rung_rests}
@@ -35,7 +36,7 @@ one-more (timer ∷ rest) more = ap suc (one-more rest more)
 
 module _ (now : ℕ) where
   abbrev Quiet : Due → TimedState Both → Type 0
-  Quiet it s = has_run_out (due_alarm s it) now ≡ false
+  Quiet it s = has_run_out (due_alarm s.upkeep it) now ≡ false
 
   abbrev AreQuiet : List Timer → TimedState Both → Type 0
   AreQuiet [] s = Unit {0}
@@ -50,7 +51,7 @@ module _ (now : ℕ) where
   tells-end s (Some it) = (due_told kinds_control now s it).timed
 
   abbrev ticks-once : TimedState Both → TimedState Both
-  ticks-once s = tells-end s (first_due_of s now every_due)
+  ticks-once s = tells-end s (first_due s.upkeep now every_due)
 
   abbrev end-ticked : ℕ → TimedState Both → TimedState Both
   end-ticked zero s = s
@@ -64,17 +65,17 @@ module _ (now : ℕ) where
   ticked-beside : (n : ℕ) (s : CEnd) → ticked now n s ≡ record s { timed = end-ticked n s.timed }
   ticked-beside zero s = refl
   ticked-beside (suc n) s =
-      ap (ticked now n) (told-beside s (first_due_of s.timed now every_due))
+      ap (ticked now n) (told-beside s (first_due s.timed.upkeep now every_due))
       ∙ ticked-beside n (record s { timed = ticks-once s.timed })
 
   -- what is not due is skipped, and what is due is the first
-  passes : (s : TimedState Both) (it : Due) (rest : List Due) → Quiet it s → first_due_of s now (it ∷ rest) ≡ first_due_of s now rest
-  passes s it rest is = ap (λ (x : Bool). if x then Some it else first_due_of s now rest) is
+  passes : (s : TimedState Both) (it : Due) (rest : List Due) → Quiet it s → first_due s.upkeep now (it ∷ rest) ≡ first_due s.upkeep now rest
+  passes s it rest is = ap (λ (x : Bool). if x then Some it else first_due s.upkeep now rest) is
 
-  stops : (s : TimedState Both) (it : Due) (rest : List Due) → has_run_out (due_alarm s it) now ≡ true → first_due_of s now (it ∷ rest) ≡ Some it
-  stops s it rest is = ap (λ (x : Bool). if x then Some it else first_due_of s now rest) is
+  stops : (s : TimedState Both) (it : Due) (rest : List Due) → has_run_out (due_alarm s.upkeep it) now ≡ true → first_due s.upkeep now (it ∷ rest) ≡ Some it
+  stops s it rest is = ap (λ (x : Bool). if x then Some it else first_due s.upkeep now rest) is
 
-  passes-all : (passed : List Timer) (rest : List Due) (s : TimedState Both) → AreQuiet passed s → first_due_of s now (onto passed rest) ≡ first_due_of s now rest
+  passes-all : (passed : List Timer) (rest : List Due) (s : TimedState Both) → AreQuiet passed s → first_due s.upkeep now (onto passed rest) ≡ first_due s.upkeep now rest
   passes-all [] rest s quiet = refl
   passes-all (timer ∷ passed) rest s quiet = passes-all passed (due.Timer timer ∷ rest) s quiet.1 ∙ passes s (due.Timer timer) rest quiet.0
 
@@ -87,33 +88,33 @@ module _ (now : ℕ) where
   left-alone : (s : TimedState Both) (it : Due) → Quiet it s → once s it ≡ s
   left-alone s it is = ap (λ (x : Bool). (if x then due_told kinds_control now s it else stands_still s).timed) is
 
-  told : (s : TimedState Both) (it : Due) → has_run_out (due_alarm s it) now ≡ true → once s it ≡ (due_told kinds_control now s it).timed
+  told : (s : TimedState Both) (it : Due) → has_run_out (due_alarm s.upkeep it) now ≡ true → once s it ≡ (due_told kinds_control now s it).timed
   told s it is = ap (λ (x : Bool). (if x then due_told kinds_control now s it else stands_still s).timed) is
 
-  tells-it : (s : TimedState Both) (it : Due) → first_due_of s now every_due ≡ Some it → has_run_out (due_alarm s it) now ≡ true → ticks-once s ≡ once s it
+  tells-it : (s : TimedState Both) (it : Due) → first_due s.upkeep now every_due ≡ Some it → has_run_out (due_alarm s.upkeep it) now ≡ true → ticks-once s ≡ once s it
   tells-it s it first is = ap (λ (x : Option Due). tells-end s x) first ∙ sym (told s it is)
 
   -- where nothing is due, ticks do nothing
-  rests : (n : ℕ) (s : TimedState Both) → first_due_of s now every_due ≡ None → end-ticked n s ≡ s
+  rests : (n : ℕ) (s : TimedState Both) → first_due s.upkeep now every_due ≡ None → end-ticked n s ≡ s
   rests zero s none = refl
   rests (suc n) s none = ap (λ (x : Option Due). end-ticked n (tells-end s x)) none ∙ rests n s none
 
   -- the rules come last
   last-by : (more : ℕ) (passed : List Timer) (s : TimedState Both) → onto passed (due.Rules ∷ []) ≡ every_due → AreQuiet passed s → (is : Bool)
-      → has_run_out (due_alarm s due.Rules) now ≡ is → end-ticked (suc more) s ≡ once s due.Rules
+      → has_run_out (due_alarm s.upkeep due.Rules) now ≡ is → end-ticked (suc more) s ≡ once s due.Rules
   last-by more passed s all quiet true is =
-      let first : first_due_of s now every_due ≡ Some due.Rules =
-      ap (first_due_of s now) (sym all) ∙ passes-all passed (due.Rules ∷ []) s quiet ∙ stops s due.Rules [] is
+      let first : first_due s.upkeep now every_due ≡ Some due.Rules =
+      ap (first_due s.upkeep now) (sym all) ∙ passes-all passed (due.Rules ∷ []) s quiet ∙ stops s due.Rules [] is
       in
       let next : TimedState Both = once s due.Rules in
-      let none : first_due_of next now every_due ≡ None =
-      ap (first_due_of next now) (sym all) ∙ passes-all passed (due.Rules ∷ []) next (still-quiet passed s due.Rules quiet)
+      let none : first_due next.upkeep now every_due ≡ None =
+      ap (first_due next.upkeep now) (sym all) ∙ passes-all passed (due.Rules ∷ []) next (still-quiet passed s due.Rules quiet)
       ∙ passes next due.Rules [] (rung_rests kinds_control now s due.Rules)
       in
       ap (end-ticked more) (tells-it s due.Rules first is) ∙ rests more next none
   last-by more passed s all quiet false is =
-      let none : first_due_of s now every_due ≡ None =
-      ap (first_due_of s now) (sym all) ∙ passes-all passed (due.Rules ∷ []) s quiet ∙ passes s due.Rules [] is
+      let none : first_due s.upkeep now every_due ≡ None =
+      ap (first_due s.upkeep now) (sym all) ∙ passes-all passed (due.Rules ∷ []) s quiet ∙ passes s due.Rules [] is
       in
       rests (suc more) s none ∙ sym (left-alone s due.Rules is)
 
@@ -121,11 +122,11 @@ module _ (now : ℕ) where
   told-by : (more : ℕ) (passed : List Timer) (timer : Timer) (rest : List Timer) (s : TimedState Both) → onto passed (due.Timer timer ∷ dues rest) ≡ every_due
       → AreQuiet passed s
       → ((n : ℕ) (t : TimedState Both) → AreQuiet (timer ∷ passed) t → end-ticked (ticks-for rest n) t ≡ rung_in_order kinds_control now t (dues rest))
-      → (is : Bool) → has_run_out (due_alarm s (due.Timer timer)) now ≡ is
+      → (is : Bool) → has_run_out (due_alarm s.upkeep (due.Timer timer)) now ≡ is
       → end-ticked (suc (ticks-for rest more)) s ≡ rung_in_order kinds_control now (once s (due.Timer timer)) (dues rest)
   told-by more passed timer rest s all quiet later true is =
-      let first : first_due_of s now every_due ≡ Some (due.Timer timer) =
-      ap (first_due_of s now) (sym all) ∙ passes-all passed (due.Timer timer ∷ dues rest) s quiet ∙ stops s (due.Timer timer) (dues rest) is
+      let first : first_due s.upkeep now every_due ≡ Some (due.Timer timer) =
+      ap (first_due s.upkeep now) (sym all) ∙ passes-all passed (due.Timer timer ∷ dues rest) s quiet ∙ stops s (due.Timer timer) (dues rest) is
       in
       ap (end-ticked (ticks-for rest more)) (tells-it s (due.Timer timer) first is)
       ∙ later more (once s (due.Timer timer)) (rung_rests kinds_control now s (due.Timer timer), still-quiet passed s (due.Timer timer) quiet)
@@ -137,12 +138,12 @@ module _ (now : ℕ) where
   -- As many ticks as there are things left to look at, or more, do all that is due.
   all-told : (more : ℕ) (passed rest : List Timer) (s : TimedState Both) → onto passed (dues rest) ≡ every_due → AreQuiet passed s
       → end-ticked (ticks-for rest more) s ≡ rung_in_order kinds_control now s (dues rest)
-  all-told more passed [] s all quiet = last-by more passed s all quiet (has_run_out (due_alarm s due.Rules) now) refl
+  all-told more passed [] s all quiet = last-by more passed s all quiet (has_run_out (due_alarm s.upkeep due.Rules) now) refl
   all-told more passed (timer ∷ rest) s all quiet =
       told-by more passed timer rest s all quiet (λ n t q. all-told n (timer ∷ passed) rest t all q)
-      (has_run_out (due_alarm s (due.Timer timer)) now) refl
+      (has_run_out (due_alarm s.upkeep (due.Timer timer)) now) refl
 
-  none-first : (list : List Due) (s : TimedState Both) → NoneIsDue now s → first_due_of s now list ≡ None
+  none-first : (list : List Due) (s : TimedState Both) → NoneIsDue now s → first_due s.upkeep now list ≡ None
   none-first [] s none = refl
   none-first (it ∷ rest) s none = passes s it rest (none it) ∙ none-first rest s none
 

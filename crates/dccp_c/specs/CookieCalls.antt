@@ -9,7 +9,7 @@ use Rattle.server_peers.specs.Requests.{asking_of, cookie_read, opening_in}
 use Rattle.server_peers.specs.declared.asking.DatagramRequest.{DatagramRequest}
 use Rattle.server_peers.specs.declared.asking.DatagramRequest.TheVariants.{Nothing, TooLong, This}
 use Rattle.dccp_states.specs.declared.outcome.Outcome.{Outcome}
-use Rattle.dccp_uses.specs.Timed.{is_taken}
+use Rattle.dccp_uses.specs.Upkeeps.{is_taken}
 use Rattle.dccp_uses.specs.declared.holding.Reading.{Reading}
 use Rattle.init_cookies.specs.Appending.{appended}
 use Rattle.init_cookies.specs.Cookies.{cookie_bytes}

@@ -3,7 +3,8 @@ use Rattle.std.specs.Prelude.{◌≡◌, ℕ, Bool, true, false, List, [], Optio
 use Rattle.data_dropped.specs.declared.drops.DropEntry.{DropEntry}
 use Rattle.dccp_listener.specs.Chain.{FlowCall}
 use Rattle.dccp_server.specs.Due.{never}
-use Rattle.dccp_uses.specs.Timed.{every_due, first_due_of, first_wait_left}
+use Rattle.dccp_uses.specs.Timed.{first_wait_left}
+use Rattle.dccp_uses.specs.Upkeeps.{every_due, first_due}
 use Rattle.dccp_uses.specs.declared.timed_end.Due.{Due}
 use Rattle.dccp_c.specs.Framing.{FrameFields, handed_of, nothing_handed}
 use Rattle.dccp_c.specs.Keeping.{Inner}
@@ -16,7 +17,7 @@ c_tells now s (Some it) = record { after = (c_told it now s).after; frame = (c_t
 
 -- the first of the six timers and the rules that is due is done
 abbrev pub c_ticks : ℕ → CDoing Bool
-c_ticks now s = c_tells now s (first_due_of s.timed now every_due)
+c_ticks now s = c_tells now s (first_due s.timed.upkeep now every_due)
 
 -- in how many milliseconds something of an end is due; never if nothing will be
 abbrev pub c_waits : ℕ → Option CEnd → ℕ

@@ -8,7 +8,7 @@ use Rattle.dccp_listener.specs.declared.peer.Peer.{Peer}
 use Rattle.dccp_server.specs.FlowInboxes.{Inboxes, flow_most_said}
 use Rattle.dccp_server.specs.Rooms.{RuledRoom}
 use Rattle.dccp_server.specs.Serving.{upkeep_at}
-use Rattle.dccp_server.specs.declared.upkeep.Upkeep.{Upkeep}
+use Rattle.dccp_uses.specs.declared.upkeep.Upkeep.{Upkeep}
 use Rattle.dccp_states.specs.declared.calls.Timer.TheVariants as timers
 use Rattle.dccp_uses.specs.Alarms.{starting_wait_by}
 use Rattle.dccp_uses.specs.Path.{path_waits}

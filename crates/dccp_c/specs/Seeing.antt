@@ -50,7 +50,7 @@ trip_seen (Some trip) timeout = record { size = 24; timeout = timeout; smoothed 
 
 -- the same for an end with its timers
 abbrev pub seen_path : TimedState Both → RoundTripView
-seen_path s = trip_seen s.path.round_trip (starting_wait_by (path_waits s.path) s.alarms timers.Rto)
+seen_path s = trip_seen s.upkeep.path.round_trip (starting_wait_by (path_waits s.upkeep.path) s.upkeep.alarms timers.Rto)
 
 -- the same, if there is an end
 abbrev pub path_after : Option CEnd → RoundTripView → RoundTripView
@@ -60,7 +60,7 @@ path_after (Some s) old = seen_path s.timed
 -- what C gets about an end, if there is one
 abbrev pub view_after : Option CEnd → View → View
 view_after None old = old
-view_after (Some s) old = seen_within s.timed.path.reader.allowance s.timed.end
+view_after (Some s) old = seen_within s.timed.upkeep.path.reader.allowance s.timed.end
 
 -- What C gets from a reading: what was read, or what was there before if there is no end.
 abbrev pub seen_after : {Seen : Type 0} → (End Both → Seen) → Option CEnd → Seen → Seen

@@ -64,4 +64,4 @@ c_receives bytes now s = c_step (holds_heard s bytes (timed_takes kinds_control 
 
 -- the record of drops once a datagram has led the first end to the second
 abbrev pub record_heard : List ℕ → TimedState Both → TimedState Both → List DropEntry → List DropEntry
-record_heard bytes before after drops = record_after drop_recorded before.path.reader.counted after.path.reader.counted bytes drops
+record_heard bytes before after drops = record_after drop_recorded before.upkeep.path.reader.counted after.upkeep.path.reader.counted bytes drops

@@ -2,7 +2,7 @@
 use Rattle.std.specs.Prelude.{◌≡◌, ℕ, zero, suc, false}
 use Rattle.ccid_two.specs.Kinds.{kinds_control}
 use Rattle.dccp_uses.specs.Sessions.{rings_each_due}
-use Rattle.dccp_uses.specs.Timed.{every_due}
+use Rattle.dccp_uses.specs.Upkeeps.{every_due}
 use Rattle.dccp_c.specs.Doing.{c_ticks}
 use Rattle.dccp_c.specs.Stepping.{CEnd}
 

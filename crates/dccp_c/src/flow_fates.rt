@@ -17,10 +17,10 @@ use crate::readers::trip_seen;
 use crate::sizes::ROUND_TRIP_VIEW_BYTES;
 use crate::{ListenerHandle, PeerAddress, RoundTripView};
 use ccid_two::Kinds;
-use dccp_endpoint::{Endpoint, Seq48, Timer};
+use dccp_endpoint::{Endpoint, Seq48};
 use dccp_listener::Peer;
-use dccp_server::{FlowDropRecord, Server, Upkeep};
-use dccp_uses::starting_wait;
+use dccp_server::{FlowDropRecord, Server};
+use dccp_uses::Upkeep;
 use std::alloc::Global;
 
 // What became of data to a peer with this end.
@@ -101,8 +101,7 @@ pub extern "C" fn dccp_listener_longest_data(
 fn upkeep_seen(upkeep: &Upkeep) -> RoundTripView
     ensures { result ≡ upkeep_seen upkeep.now }
 {
-    let timeout = starting_wait(&upkeep.path.waits(), &upkeep.alarms, Timer::Rto);
-    trip_seen(upkeep.path.round_trip, timeout)
+    trip_seen(upkeep.path.round_trip, upkeep.timeout())
 }
 
 fn path_of(server: &Server, peer: Peer) -> Option<RoundTripView>

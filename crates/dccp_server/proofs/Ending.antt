@@ -24,20 +24,21 @@ use Rattle.dccp_uses.proofs.Dues.{other_rests, rung_rests}
 use Rattle.dccp_uses.specs.Alarms.{has_run_out}
 use Rattle.dccp_uses.specs.Rules.{due_rule}
 use Rattle.dccp_uses.specs.Sessions.{rings_due, stands_still}
-use Rattle.dccp_uses.specs.Timed.{TimedState, TimedStep, due_told, every_due}
+use Rattle.dccp_uses.specs.Timed.{TimedState, TimedStep, due_told}
+use Rattle.dccp_uses.specs.Upkeeps.{due_alarm, every_due, first_due, upkeep_begins}
 use Rattle.dccp_uses.specs.declared.pace.Pace.{Pace}
 use Rattle.dccp_uses.specs.declared.timed_end.Due.{Due}
 use Rattle.dccp_uses.specs.declared.timed_end.Due.TheVariants as due
 use Rattle.dccp_server.specs.Ending.{ListenerTicksEnd, doing_due, due_served, listener_ticked}
 use Rattle.dccp_server.specs.Serving.{ServedListener, Upkeeps, due_of_flow, due_of_ticket, first_due_flow, is_refusal, listening_if, served_by, served_through, serves_on, serving_begins, soonest, upkeep_at, upkeeps_then}
-use Rattle.dccp_server.specs.Timing.{flow_after}
-use Rattle.dccp_server.specs.Upkeeps.{call_for_rule, called_so, first_due, kept_alarm, next_upkeep, timed_flow, upkeep_begins, upkeep_of}
+use Rattle.dccp_server.specs.Timing.{flow_after, timed_flow}
+use Rattle.dccp_server.specs.Upkeeps.{call_for_rule, called_so, next_upkeep}
 use Rattle.dccp_server.specs.declared.happening.FlowHappening.{FlowHappening}
 use Rattle.dccp_server.specs.declared.happening.FlowHappening.TheVariants as happening
 use Rattle.server_peers.specs.declared.queue.Ticket.{Ticket}
-use Rattle.dccp_server.specs.declared.upkeep.Upkeep.{Upkeep}
+use Rattle.dccp_uses.specs.declared.upkeep.Upkeep.{Upkeep}
 use Rattle.dccp_server.proofs.Refusing.{IsResting, kept_at, rests_after, resting}
-use Rattle.dccp_server.proofs.Timing.{same_kept, same_rung}
+use Rattle.dccp_server.proofs.Timing.{same_kept}
 use Rattle.server_peers.proofs.Among.{found_among}
 
 one-if : Bool → ℕ
@@ -56,168 +57,111 @@ unfolding one-if
 one-most true = omega arith
 one-most false = omega arith
 
+abbrev of-six : (Timer → ℕ) → ℕ
+of-six f = f timers.Request + f timers.Ack + f timers.Negotiate + f timers.Rto + f timers.Close + f timers.TimeWait
+
+no-more : (f g : Timer → ℕ) → ((t : Timer) → f t ≤ g t) → of-six f ≤ of-six g
+no-more f g le = omega (arith, le timers.Request, le timers.Ack, le timers.Negotiate, le timers.Rto, le timers.Close, le timers.TimeWait)
+
+-- where none of the six grows, and one falls from 1 to 0, their sum falls
+falls-by-one : (f g : Timer → ℕ) (it : Timer) → ((t : Timer) → f t ≤ g t) → f it ≡ 0 → g it ≡ 1 → of-six f + 1 ≤ of-six g
+falls-by-one f g timers.Request le none one =
+    omega (arith, none, one, le timers.Ack, le timers.Negotiate, le timers.Rto, le timers.Close, le timers.TimeWait)
+falls-by-one f g timers.Ack le none one =
+    omega (arith, none, one, le timers.Request, le timers.Negotiate, le timers.Rto, le timers.Close, le timers.TimeWait)
+falls-by-one f g timers.Negotiate le none one =
+    omega (arith, none, one, le timers.Request, le timers.Ack, le timers.Rto, le timers.Close, le timers.TimeWait)
+falls-by-one f g timers.Rto le none one =
+    omega (arith, none, one, le timers.Request, le timers.Ack, le timers.Negotiate, le timers.Close, le timers.TimeWait)
+falls-by-one f g timers.Close le none one =
+    omega (arith, none, one, le timers.Request, le timers.Ack, le timers.Negotiate, le timers.Rto, le timers.TimeWait)
+falls-by-one f g timers.TimeWait le none one =
+    omega (arith, none, one, le timers.Request, le timers.Ack, le timers.Negotiate, le timers.Rto, le timers.Close)
+
 module _ (now : ℕ) where
   -- how much is due of a flow: a timer may make the rules due once more
 
   owes : Upkeep → Due → ℕ
-  owes u it = one-if (has_run_out (kept_alarm u it) now)
+  owes u it = one-if (has_run_out (due_alarm u it) now)
 
   abbrev rings : Upkeep → Timer → ℕ
   rings u timer = owes u (due.Timer timer)
 
-  timers-due : Upkeep → ℕ
-  timers-due u = rings u timers.Request + rings u timers.Ack + rings u timers.Negotiate + rings u timers.Rto + rings u timers.Close + rings u timers.TimeWait
-
   weight : Upkeep → ℕ
-  weight u = 2 * timers-due u + owes u due.Rules
+  weight u = 2 * of-six (rings u) + owes u due.Rules
 
   at-most-thirteen : (u : Upkeep) → weight u ≤ 13
-  unfolding weight timers-due owes
+  unfolding weight owes
   at-most-thirteen u =
       omega (
         arith,
-        one-most (has_run_out (kept_alarm u (due.Timer timers.Request)) now),
-        one-most (has_run_out (kept_alarm u (due.Timer timers.Ack)) now),
-        one-most (has_run_out (kept_alarm u (due.Timer timers.Negotiate)) now),
-        one-most (has_run_out (kept_alarm u (due.Timer timers.Rto)) now),
-        one-most (has_run_out (kept_alarm u (due.Timer timers.Close)) now),
-        one-most (has_run_out (kept_alarm u (due.Timer timers.TimeWait)) now),
-        one-most (has_run_out (kept_alarm u due.Rules) now),
+        one-most (has_run_out (due_alarm u (due.Timer timers.Request)) now),
+        one-most (has_run_out (due_alarm u (due.Timer timers.Ack)) now),
+        one-most (has_run_out (due_alarm u (due.Timer timers.Negotiate)) now),
+        one-most (has_run_out (due_alarm u (due.Timer timers.Rto)) now),
+        one-most (has_run_out (due_alarm u (due.Timer timers.Close)) now),
+        one-most (has_run_out (due_alarm u (due.Timer timers.TimeWait)) now),
+        one-most (has_run_out (due_alarm u due.Rules) now),
       )
 
-  itself : (e : FlowEnd) (u : Upkeep) (it : Due)
-      → has_run_out (kept_alarm (upkeep_of (rings_due kinds_control now (timed_flow e u) it).timed) it) now ≡ false
-  itself e u (due.Timer timer) = rung_rests kinds_control now (timed_flow e u) (due.Timer timer)
-  itself e u due.Rules = rung_rests kinds_control now (timed_flow e u) due.Rules
-
-  module _ (e : FlowEnd) (u : Upkeep) (it : Due) (is : has_run_out (kept_alarm u it) now ≡ true) where
+  module _ (e : FlowEnd) (u : Upkeep) (it : Due) (is : has_run_out (due_alarm u it) now ≡ true) where
     abbrev s : TimedState Both
     s = timed_flow e u
 
     -- what is kept once the end was told it
     abbrev told : Upkeep
-    told = upkeep_of (due_told kinds_control now s it).timed
+    told = (due_told kinds_control now s it).timed.upkeep
 
     abbrev rung : TimedStep Both Bool
     rung = rings_due kinds_control now s it
 
-    told-so : upkeep_of rung.timed ≡ told
-    told-so = ap (λ (b : Bool). upkeep_of (if b then due_told kinds_control now s it else stands_still s).timed) is
+    told-so : rung.timed.upkeep ≡ told
+    told-so = ap (λ (b : Bool). (if b then due_told kinds_control now s it else stands_still s).timed.upkeep) is
 
     own : owes told it ≡ 0
     unfolding owes one-if
-    own = ap (λ (x : Upkeep). one-if (has_run_out (kept_alarm x it) now)) (sym told-so) ∙ ap one-if (itself e u it)
+    own = ap (λ (x : Upkeep). one-if (has_run_out (due_alarm x it) now)) (sym told-so) ∙ ap one-if (rung_rests kinds_control now s it)
 
     other : (timer : Timer) → rings told timer ≤ rings u timer
     unfolding owes
     other timer =
-        at-most (has_run_out (kept_alarm told (due.Timer timer)) now) (has_run_out (kept_alarm u (due.Timer timer)) now)
-        (λ quiet. ap (λ (x : Upkeep). has_run_out (kept_alarm x (due.Timer timer)) now) (sym told-so) ∙ other_rests kinds_control now s it timer quiet)
+        at-most (has_run_out (due_alarm told (due.Timer timer)) now) (has_run_out (due_alarm u (due.Timer timer)) now)
+        (λ quiet. ap (λ (x : Upkeep). has_run_out (due_alarm x (due.Timer timer)) now) (sym told-so) ∙ other_rests kinds_control now s it timer quiet)
 
     was : owes u it ≡ 1
     unfolding owes one-if
     was = ap one-if is
 
   -- So what is due gets less.
-  less : (e : FlowEnd) (u : Upkeep) (it : Due) → has_run_out (kept_alarm u it) now ≡ true
-      → weight (upkeep_of (due_told kinds_control now (timed_flow e u) it).timed) + 1 ≤ weight u
-  unfolding weight timers-due owes
-  less e u (due.Timer timers.Request) is =
+  less : (e : FlowEnd) (u : Upkeep) (it : Due) → has_run_out (due_alarm u it) now ≡ true
+      → weight (due_told kinds_control now (timed_flow e u) it).timed.upkeep + 1 ≤ weight u
+  unfolding weight owes
+  less e u (due.Timer timer) is =
+      let it = due.Timer timer in
       omega (
         arith,
-        own e u (due.Timer timers.Request) is,
-        was e u (due.Timer timers.Request) is,
-        other e u (due.Timer timers.Request) is timers.Ack,
-        other e u (due.Timer timers.Request) is timers.Negotiate,
-        other e u (due.Timer timers.Request) is timers.Rto,
-        other e u (due.Timer timers.Request) is timers.Close,
-        other e u (due.Timer timers.Request) is timers.TimeWait,
-        one-most (has_run_out (kept_alarm (told e u (due.Timer timers.Request) is) due.Rules) now),
-      )
-  less e u (due.Timer timers.Ack) is =
-      omega (
-        arith,
-        own e u (due.Timer timers.Ack) is,
-        was e u (due.Timer timers.Ack) is,
-        other e u (due.Timer timers.Ack) is timers.Request,
-        other e u (due.Timer timers.Ack) is timers.Negotiate,
-        other e u (due.Timer timers.Ack) is timers.Rto,
-        other e u (due.Timer timers.Ack) is timers.Close,
-        other e u (due.Timer timers.Ack) is timers.TimeWait,
-        one-most (has_run_out (kept_alarm (told e u (due.Timer timers.Ack) is) due.Rules) now),
-      )
-  less e u (due.Timer timers.Negotiate) is =
-      omega (
-        arith,
-        own e u (due.Timer timers.Negotiate) is,
-        was e u (due.Timer timers.Negotiate) is,
-        other e u (due.Timer timers.Negotiate) is timers.Request,
-        other e u (due.Timer timers.Negotiate) is timers.Ack,
-        other e u (due.Timer timers.Negotiate) is timers.Rto,
-        other e u (due.Timer timers.Negotiate) is timers.Close,
-        other e u (due.Timer timers.Negotiate) is timers.TimeWait,
-        one-most (has_run_out (kept_alarm (told e u (due.Timer timers.Negotiate) is) due.Rules) now),
-      )
-  less e u (due.Timer timers.Rto) is =
-      omega (
-        arith,
-        own e u (due.Timer timers.Rto) is,
-        was e u (due.Timer timers.Rto) is,
-        other e u (due.Timer timers.Rto) is timers.Request,
-        other e u (due.Timer timers.Rto) is timers.Ack,
-        other e u (due.Timer timers.Rto) is timers.Negotiate,
-        other e u (due.Timer timers.Rto) is timers.Close,
-        other e u (due.Timer timers.Rto) is timers.TimeWait,
-        one-most (has_run_out (kept_alarm (told e u (due.Timer timers.Rto) is) due.Rules) now),
-      )
-  less e u (due.Timer timers.Close) is =
-      omega (
-        arith,
-        own e u (due.Timer timers.Close) is,
-        was e u (due.Timer timers.Close) is,
-        other e u (due.Timer timers.Close) is timers.Request,
-        other e u (due.Timer timers.Close) is timers.Ack,
-        other e u (due.Timer timers.Close) is timers.Negotiate,
-        other e u (due.Timer timers.Close) is timers.Rto,
-        other e u (due.Timer timers.Close) is timers.TimeWait,
-        one-most (has_run_out (kept_alarm (told e u (due.Timer timers.Close) is) due.Rules) now),
-      )
-  less e u (due.Timer timers.TimeWait) is =
-      omega (
-        arith,
-        own e u (due.Timer timers.TimeWait) is,
-        was e u (due.Timer timers.TimeWait) is,
-        other e u (due.Timer timers.TimeWait) is timers.Request,
-        other e u (due.Timer timers.TimeWait) is timers.Ack,
-        other e u (due.Timer timers.TimeWait) is timers.Negotiate,
-        other e u (due.Timer timers.TimeWait) is timers.Rto,
-        other e u (due.Timer timers.TimeWait) is timers.Close,
-        one-most (has_run_out (kept_alarm (told e u (due.Timer timers.TimeWait) is) due.Rules) now),
+        falls-by-one (rings (told e u it is)) (rings u) timer (other e u it is) (own e u it is) (was e u it is),
+        one-most (has_run_out (due_alarm (told e u it is) due.Rules) now),
       )
   less e u due.Rules is =
       omega (
         arith,
         own e u due.Rules is,
         was e u due.Rules is,
-        other e u due.Rules is timers.Request,
-        other e u due.Rules is timers.Ack,
-        other e u due.Rules is timers.Negotiate,
-        other e u due.Rules is timers.Rto,
-        other e u due.Rules is timers.Close,
-        other e u due.Rules is timers.TimeWait,
+        no-more (rings (told e u due.Rules is)) (rings u) (other e u due.Rules is),
       )
 
-  first-by : (u : Upkeep) (one it : Due) (rest : List Due) (here : Bool) → has_run_out (kept_alarm u one) now ≡ here
+  first-by : (u : Upkeep) (one it : Due) (rest : List Due) (here : Bool) → has_run_out (due_alarm u one) now ≡ here
       → (if here then Some one else first_due u now rest) ≡ Some it
-      → (first_due u now rest ≡ Some it → has_run_out (kept_alarm u it) now ≡ true)
-      → has_run_out (kept_alarm u it) now ≡ true
+      → (first_due u now rest ≡ Some it → has_run_out (due_alarm u it) now ≡ true)
+      → has_run_out (due_alarm u it) now ≡ true
   first-by u one it rest true is found later =
-      subst (λ (d : Due). has_run_out (kept_alarm u d) now ≡ true) (ap (λ (d : Option Due). unwrap_or d one) found) is
+      subst (λ (d : Due). has_run_out (due_alarm u d) now ≡ true) (ap (λ (d : Option Due). unwrap_or d one) found) is
   first-by u one it rest false is found later = later found
 
-  first-is-due : (u : Upkeep) (it : Due) (list : List Due) → first_due u now list ≡ Some it → has_run_out (kept_alarm u it) now ≡ true
+  first-is-due : (u : Upkeep) (it : Due) (list : List Due) → first_due u now list ≡ Some it → has_run_out (due_alarm u it) now ≡ true
   first-is-due u it [] found = cc found
-  first-is-due u it (one ∷ rest) found = first-by u one it rest (has_run_out (kept_alarm u one) now) refl found (first-is-due u it rest)
+  first-is-due u it (one ∷ rest) found = first-by u one it rest (has_run_out (due_alarm u one) now) refl found (first-is-due u it rest)
 
   -- the first peer of which something is due has what is due
 
@@ -315,7 +259,7 @@ module _ (now : ℕ) where
         (kept_at s peer is.tied (ap is_some found)) falls)
 
     fewer-by : (peer : Peer) (it : Due) (found : Option FlowEnd) → end_of_peer s.listening.flows peer ≡ found → IsSome found
-        → has_run_out (kept_alarm (u peer) it) now ≡ true
+        → has_run_out (due_alarm (u peer) it) now ≡ true
         → total (served_by now s peer (doing_due it)).upkeeps + 1 ≤ total s.upkeeps
     fewer-by peer it None found there at = absurd (false≢true there)
     fewer-by peer (due.Timer timer) (Some e) found there at =
@@ -324,8 +268,7 @@ module _ (now : ℕ) where
         in
         subst (λ (b : Bool). total (serves_on now s (listening_after s.listening peer (Calls (Fires timer))) peer (called_so (Fires timer) b)).upkeeps + 1 ≤ total s.upkeeps)
         (sym told)
-        (falls-by peer e (Some (Fires timer)) (happening.Rang timer) found
-        (subst (λ (x : Upkeep). weight x + 1 ≤ weight (u peer)) (sym (same_rung now e (u peer) timer)) (less e (u peer) (due.Timer timer) at)))
+        (falls-by peer e (Some (Fires timer)) (happening.Rang timer) found (less e (u peer) (due.Timer timer) at))
     fewer-by peer due.Rules (Some e) found there at =
         let rule = due_rule (u peer).path now in
         let lighter : weight (next_upkeep now s.pace (u peer) (happening.Ruled rule) (flow_after e (call_for_rule rule (u peer).path.aim (Some e)))) + 1 ≤ weight (u peer) =
@@ -345,7 +288,7 @@ module _ (now : ℕ) where
         in
         let same : u it.0 ≡ first.0 = ap (λ (x : Option Upkeep). unwrap_or x (upkeep_begins s.pace)) first.1 in
         fewer-by it.0 it.1 (end_of_peer s.listening.flows it.0) refl there
-        (subst (λ (x : Upkeep). has_run_out (kept_alarm x it.1) now ≡ true) (sym same) (first-is-due first.0 it.1 every_due first.2))
+        (subst (λ (x : Upkeep). has_run_out (due_alarm x it.1) now ≡ true) (sym same) (first-is-due first.0 it.1 every_due first.2))
 
   none-left : (s : ServedListener) → IsResting s → (found : Option (Peer × Due)) → first_due_flow now s.upkeeps ≡ found → total s.upkeeps ≤ 0 → found ≡ None
   none-left s is None at most = refl

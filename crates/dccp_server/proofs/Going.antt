@@ -15,7 +15,7 @@ use Rattle.dccp_server.specs.Serving.{IsDone, ServedListener, Upkeeps, call_by_r
 use Rattle.server_peers.specs.Places.{IsPlaced}
 use Rattle.dccp_server.specs.declared.happening.FlowHappening.{FlowHappening}
 use Rattle.dccp_server.specs.declared.happening.FlowHappening.TheVariants as happening
-use Rattle.dccp_server.specs.declared.upkeep.Upkeep.{Upkeep}
+use Rattle.dccp_uses.specs.declared.upkeep.Upkeep.{Upkeep}
 use Rattle.server_peers.proofs.Placing.{then_placed}
 
 module _ (fresh : Upkeep) (now : ℕ) (had : Bool) (before : ListenerState) (pace : Pace) (kept placed then' : Upkeeps) (peer : Peer) where

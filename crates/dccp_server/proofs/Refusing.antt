@@ -39,10 +39,11 @@ use Rattle.dccp_listener.specs.declared.config.ListenConfig.{ListenConfig}
 use Rattle.dccp_listener.specs.declared.peer.Peer.{Peer}
 use Rattle.dccp_uses.specs.declared.pace.Pace.{Pace}
 use Rattle.dccp_server.specs.Serving.{Does, PeerDeed, Follows, IsTied, RefusedCallsChangeNothing, ServedListener, Spends, TimedDeed, Upkeeps, call_due, is_refusal, listening_if, served, served_by, served_through, serving_begins, served_counted_by, upkeep_at, upkeeps_then}
-use Rattle.dccp_server.specs.Upkeeps.{called_so, upkeep_begins}
+use Rattle.dccp_uses.specs.Upkeeps.{upkeep_begins}
+use Rattle.dccp_server.specs.Upkeeps.{called_so}
 use Rattle.dccp_server.specs.declared.happening.FlowHappening.{FlowHappening}
 use Rattle.dccp_server.specs.declared.happening.FlowHappening.TheVariants as happening
-use Rattle.dccp_server.specs.declared.upkeep.Upkeep.{Upkeep}
+use Rattle.dccp_uses.specs.declared.upkeep.Upkeep.{Upkeep}
 use Rattle.server_peers.proofs.Placing.{none_gone}
 use Rattle.dccp_server.proofs.Tying.{begun_tied, tied_does}
 use Rattle.server_peers.proofs.Among.{all_after, found_among, none_from, not_among}

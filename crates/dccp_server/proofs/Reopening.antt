@@ -7,7 +7,7 @@ use Rattle.dccp_listener.specs.declared.calls.Heard.{Heard}
 use Rattle.dccp_listener.specs.declared.calls.Heard.TheVariants as heard
 use Rattle.dccp_listener.specs.declared.peer.Peer.{Peer}
 use Rattle.dccp_states.specs.declared.outcome.Outcome.{Outcome}
-use Rattle.dccp_uses.specs.Timed.{is_taken}
+use Rattle.dccp_uses.specs.Upkeeps.{is_taken}
 use Rattle.init_cookies.specs.Openings.{OpeningState}
 use Rattle.init_cookies.specs.declared.cookie.CookieKeys.{CookieKeys}
 use Rattle.seq_circle.specs.declared.memory.NoMemory.{NoMemory}

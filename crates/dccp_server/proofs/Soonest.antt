@@ -12,7 +12,7 @@ use Rattle.std.specs.Prelude.{unwrap_or}
 use Rattle.dccp_listener.specs.Peers.{is_peer, peer_cmp}
 use Rattle.dccp_listener.specs.declared.peer.Peer.{Peer}
 use Rattle.dccp_uses.specs.Alarms.{has_run_out, time_left}
-use Rattle.dccp_uses.specs.Timed.{every_due}
+use Rattle.dccp_uses.specs.Upkeeps.{alarm_end, due_alarm, earlier, every_due, first_due, first_end, on_clock, upkeep_moment}
 use Rattle.dccp_uses.specs.declared.alarms.Alarm.{Alarm}
 use Rattle.dccp_uses.specs.declared.timed_end.Due.{Due}
 use Rattle.dccp_server.specs.Due.{never}
@@ -21,13 +21,12 @@ use Rattle.server_peers.specs.Lives.{Lives}
 use Rattle.server_peers.specs.Queues.{AreTicketsInOrder, first_in, moment_if, paired, queue_of, ticket, ticket_cmp}
 use Rattle.server_peers.specs.Rules.{class_of, first_given_up, holder, is_none_left, left_since, life_moment, limit_in, longest, or_else, over_in, since_in, stage_left}
 use Rattle.dccp_server.specs.Serving.{Upkeeps, due_of_flow, due_of_ticket, first_due_flow, soonest, wait_until}
-use Rattle.dccp_server.specs.Upkeeps.{earlier, alarm_end, first_due, first_end, kept_alarm, on_clock, upkeep_moment}
 use Rattle.server_peers.specs.declared.life.Life.{Life}
 use Rattle.server_peers.specs.declared.queue.Ticket.{Ticket}
 use Rattle.server_peers.specs.declared.rules.Rules.{Rules}
 use Rattle.server_peers.specs.declared.stage.Stage.{Stage}
 use Rattle.server_peers.specs.declared.stage.Stage.TheVariants as stage
-use Rattle.dccp_server.specs.declared.upkeep.Upkeep.{Upkeep}
+use Rattle.dccp_uses.specs.declared.upkeep.Upkeep.{Upkeep}
 use Rattle.server_peers.proofs.Classes.{no_more_than}
 use Rattle.server_peers.proofs.Ordered.{first_of, less_from, rest_of}
 use Rattle.server_peers.proofs.Tickets.{exact_tickets, found, its_ticket, queue_ordered, stands, tickets_total}
@@ -148,10 +147,10 @@ some-or it rest false = refl
 due-reached : (u : Upkeep) (t : ℕ) (list : List Due) → t < 2 ^ 64 → is_some (first_due u t list) ≡ reached (first_end u list) t
 due-reached u t [] fits = refl
 due-reached u t (it ∷ rest) fits =
-    some-or it (first_due u t rest) (has_run_out (kept_alarm u it) t)
-    ∙ ap (λ (b : Bool). b || is_some (first_due u t rest)) (run-out (kept_alarm u it) t fits)
-    ∙ ap (λ (b : Bool). reached (alarm_end (kept_alarm u it)) t || b) (due-reached u t rest fits)
-    ∙ sym (either-reached (alarm_end (kept_alarm u it)) (first_end u rest) t)
+    some-or it (first_due u t rest) (has_run_out (due_alarm u it) t)
+    ∙ ap (λ (b : Bool). b || is_some (first_due u t rest)) (run-out (due_alarm u it) t fits)
+    ∙ ap (λ (b : Bool). reached (alarm_end (due_alarm u it)) t || b) (due-reached u t rest fits)
+    ∙ sym (either-reached (alarm_end (due_alarm u it)) (first_end u rest) t)
 
 none-from : {X : Type 0} (x : Option X) → is_some x ≡ false → x ≡ None
 none-from None is = refl

@@ -8,7 +8,7 @@ use Rattle.dccp_listener.specs.Runs.{IsRunOfTurns}
 use Rattle.dccp_listener.specs.Chain.{Deed, FlowCall}
 use Rattle.dccp_listener.specs.declared.peer.Peer.{Peer}
 use Rattle.dccp_server.specs.Serving.{CallsAreARun, Does, PeerDeed, Follows, ServedListener, Spends, TimedDeed, call_due, deed_if, deeds_by, deeds_through, listening_if, served_by, served_through, serving_begins, served_counted_by, upkeep_at}
-use Rattle.dccp_server.specs.declared.upkeep.Upkeep.{Upkeep}
+use Rattle.dccp_uses.specs.declared.upkeep.Upkeep.{Upkeep}
 
 pub spent_same : (now : ℕ) (s : ServedListener) (peer : Peer) (bytes : List ℕ) (u : Upkeep) (found : Option FlowEnd)
     → (served_counted_by now s peer bytes u found).listening ≡ s.listening

@@ -32,7 +32,7 @@ use Rattle.dccp_server.specs.Serving.{CallsWantNoMemory, Does, PeerDeed, Follows
 use Rattle.dccp_server.specs.Upkeeps.{next_upkeep}
 use Rattle.dccp_server.specs.declared.happening.FlowHappening.{FlowHappening}
 use Rattle.dccp_server.specs.declared.happening.FlowHappening.TheVariants as happening
-use Rattle.dccp_server.specs.declared.upkeep.Upkeep.{Upkeep}
+use Rattle.dccp_uses.specs.declared.upkeep.Upkeep.{Upkeep}
 use Rattle.dccp_server.proofs.Through.{none_in_order}
 use Rattle.server_peers.proofs.Among.{found_among, none_from, not_among, all_after}
 

@@ -6,7 +6,7 @@ use Rattle.dccp_listener.specs.Chain.{Calls, Fires}
 use Rattle.dccp_listener.specs.Peers.{is_peer, peer_cmp}
 use Rattle.dccp_listener.specs.declared.config.ListenConfig.{ListenConfig}
 use Rattle.dccp_listener.specs.declared.peer.Peer.{Peer}
-use Rattle.dccp_uses.specs.Timed.{every_due}
+use Rattle.dccp_uses.specs.Upkeeps.{every_due, first_due}
 use Rattle.dccp_uses.specs.declared.pace.Pace.{Pace}
 use Rattle.dccp_uses.specs.declared.timed_end.Due.{Due}
 use Rattle.dccp_uses.specs.declared.timed_end.Due.TheVariants as due
@@ -14,10 +14,9 @@ use Rattle.dccp_server.specs.Due.{never}
 use Rattle.server_peers.specs.Lives.{Lives}
 use Rattle.server_peers.specs.Rules.{first_given_up, is_none_left, life_left}
 use Rattle.dccp_server.specs.Serving.{PeerDeed, Does, Follows, ServedListener, TimedDeed, Upkeeps, first_due_flow, least_wait, served_by, served_through, serving_begins}
-use Rattle.dccp_server.specs.Upkeeps.{first_due}
 use Rattle.server_peers.specs.declared.life.Life.{Life}
 use Rattle.server_peers.specs.declared.rules.Rules.{Rules}
-use Rattle.dccp_server.specs.declared.upkeep.Upkeep.{Upkeep}
+use Rattle.dccp_uses.specs.declared.upkeep.Upkeep.{Upkeep}
 
 -- what is done with what is due: a timer of the peer's end fires, or a rule is followed
 abbrev pub doing_due : Due → PeerDeed

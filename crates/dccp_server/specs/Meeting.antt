@@ -9,7 +9,7 @@ use Rattle.dccp_listener.specs.Peers.{FlowEnd, end_of_peer}
 use Rattle.dccp_listener.specs.declared.calls.Heard.{Heard}
 use Rattle.dccp_listener.specs.declared.calls.Heard.TheVariants as heard
 use Rattle.dccp_listener.specs.declared.peer.Peer.{Peer}
-use Rattle.dccp_uses.specs.Timed.{is_taken}
+use Rattle.dccp_uses.specs.Upkeeps.{is_taken}
 use Rattle.init_cookies.specs.Appending.{appended}
 use Rattle.init_cookies.specs.Cookies.{cookie_bytes}
 use Rattle.init_cookies.specs.Openings.{OpeningState, request_bytes}

@@ -16,7 +16,7 @@ use Rattle.dccp_listener.specs.declared.peer.Peer.{Peer}
 use Rattle.dccp_uses.specs.Reader.{restraint_of}
 use Rattle.dccp_uses.specs.Rules.{due_rule}
 use Rattle.dccp_uses.specs.Syncs.{admitted}
-use Rattle.dccp_uses.specs.Timed.{every_due}
+use Rattle.dccp_uses.specs.Upkeeps.{every_due, first_due, upkeep_begins, upkeep_moment}
 use Rattle.dccp_uses.specs.declared.pace.Pace.{Pace}
 use Rattle.dccp_uses.specs.declared.reader.Restraint.{Restraint}
 use Rattle.dccp_uses.specs.declared.timed_end.Due.{Due}
@@ -24,11 +24,11 @@ use Rattle.dccp_states.specs.declared.seen.Seen.TheVariants.{Called}
 use Rattle.dccp_server.specs.Due.{never}
 use Rattle.server_peers.specs.Places.{kept_then}
 use Rattle.server_peers.specs.Queues.{first_in, queue_of}
-use Rattle.dccp_server.specs.Upkeeps.{arrived_so, call_for_rule, called_so, first_due, next_upkeep, sight_if, upkeep_begins, upkeep_moment}
+use Rattle.dccp_server.specs.Upkeeps.{arrived_so, call_for_rule, called_so, next_upkeep, sight_if}
 use Rattle.dccp_server.specs.declared.happening.FlowHappening.{FlowHappening}
 use Rattle.dccp_server.specs.declared.happening.FlowHappening.TheVariants as happening
 use Rattle.server_peers.specs.declared.queue.Ticket.{Ticket}
-use Rattle.dccp_server.specs.declared.upkeep.Upkeep.{Upkeep}
+use Rattle.dccp_uses.specs.declared.upkeep.Upkeep.{Upkeep}
 
 -- what is kept of each peer that has a flow, in the order of the peers
 abbrev pub Upkeeps : Type 0

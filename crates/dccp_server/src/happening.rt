@@ -4,24 +4,12 @@ ghost use Rattle.dccp_listener.specs.Chain.{asked};
 ghost use Rattle.dccp_listener.specs.Calls.{seen_if};
 ghost use Rattle.dccp_listener.specs.Runs.{Stepped, told_of};
 ghost use Rattle.dccp_server.specs.Serving.{is_refusal};
-ghost use Rattle.dccp_server.specs.Upkeeps.{arrived_so, called_so, call_happening, tells_data, tells_taken};
+ghost use Rattle.dccp_server.specs.Upkeeps.{arrived_so, called_so, call_happening, next_upkeep, tells_data, tells_taken};
 
-use dccp_endpoint::{Seen, Timer, UserCall};
+use ccid_two::Kinds;
+use dccp_endpoint::{Endpoint, Seen, Timer, UserCall};
 use dccp_listener::{Heard, NoFlow};
-use dccp_uses::{Rule, Sight, is_delivery, is_taken};
-
-/// A datagram that a flow's end has heard.
-#[derive(Clone, Copy)]
-pub struct HeardDatagram {
-    /// What the rules saw of the end before.
-    pub was: Sight,
-    /// The packet was taken.
-    pub taken: bool,
-    /// It has brought data.
-    pub delivered: bool,
-    /// Nothing went out for it.
-    pub silent: bool,
-}
+use dccp_uses::{HeardDatagram, Pace, Rule, Sight, Upkeep, is_delivery, is_taken};
 
 /// What happened to a flow's end.
 #[derive(Clone, Copy)]
@@ -112,4 +100,26 @@ pub(crate) fn called_so(call: UserCall<'_>, answer: &Result<Seen, NoFlow>) -> Fl
         return FlowHappening::Refused;
     }
     call_happening(call)
+}
+
+impl FlowHappening {
+    /// What is kept of the flow goes on with its end.
+    pub(crate) fn tell(&self, upkeep: &mut Upkeep, end: &Endpoint<Kinds>, pace: Pace, now: u64)
+        ensures { upkeep.new ≡ next_upkeep now pace upkeep.old self.now end.now }
+    {
+        match self {
+            FlowHappening::Opened => {
+                *upkeep = Upkeep::begins(pace);
+                upkeep.open(end, now);
+            }
+            FlowHappening::Heard(heard) => upkeep.hear(heard, end, now),
+            FlowHappening::Sent => upkeep.send(end, now),
+            FlowHappening::Rang(timer) => upkeep.ring(*timer, end, now),
+            FlowHappening::Closed => upkeep.close(end, now),
+            FlowHappening::Called => upkeep.go_on(end, now),
+            FlowHappening::Preferred => upkeep.prefer(end, now),
+            FlowHappening::Refused => {}
+            FlowHappening::Ruled(rule) => upkeep.follow(*rule, end, now),
+        }
+    }
 }

@@ -19,13 +19,12 @@ mod room;
 mod server;
 mod serving;
 mod timed_listener;
-mod upkeep;
 
 pub use crate::duty::Duty;
 pub use crate::event_server::{EventServer, NoNewFlows};
 pub use crate::flow_drops::{FlowDrop, FlowDropRecord};
 pub use crate::flow_inboxes::{FlowInboxes, event_kept};
-pub use crate::happening::{FlowHappening, HeardDatagram};
+pub use crate::happening::FlowHappening;
 pub use crate::laws::{
     calls_are_a_run, flows_are_timed_ends, forgotten_peers_have_no_flow, inboxes_stay_few,
     meetings_are_deeds, no_flow_is_passed_over, only_strangers_want_memory,
@@ -36,5 +35,4 @@ pub use crate::meeting::{Meeting, Way};
 pub use crate::room::ArrivalResult;
 pub use crate::server::Server;
 pub use crate::timed_listener::TimedListener;
-pub use crate::upkeep::Upkeep;
 pub use server_peers::{CookieUse, EndCause, EndReason, EventKind, FlowEvent, Life, Rules};

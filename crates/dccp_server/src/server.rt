@@ -7,12 +7,11 @@ use crate::lives::{life_of, write_user};
 use crate::meeting::{Meeting, Way, greet_with_cookie, leave_out};
 use crate::room::{ArrivalResult, arrive, ask, follow, forget, is_crowded, who_leaves};
 use crate::timed_listener::TimedListener;
-use crate::upkeep::Upkeep;
 use ccid_two::Kinds;
 use dccp_endpoint::{Endpoint, Outbox, Seen, Seq48, UserCall};
 use dccp_listener::{Heard, ListenConfig, NoFlow, Peer};
 use dccp_packets::Frame;
-use dccp_uses::{Due, Pace, Reader, Restraint, due_rule, is_taken, restraint_of};
+use dccp_uses::{Due, Pace, Reader, Restraint, Upkeep, due_rule, is_taken, restraint_of};
 use init_cookies::{CookieKeys, FirstRequest, put_request};
 use server_peers::{
     CookieUse, DatagramKind, Life, Register, Rules, Strangers, answer_spared, asking_of, entry_by,

@@ -10,14 +10,14 @@ ghost use Rattle.dccp_listener.specs.Runs.{Stepped, told_of};
 ghost use Rattle.dccp_uses.specs.Syncs.{admitted};
 ghost use Rattle.server_peers.specs.Places.{HasPlaceIf, IsPlaced};
 ghost use Rattle.dccp_server.specs.Serving.{IsDone, WantsMemory, deed_served, call_due, due_of_flow, upkeep_counted, first_due_flow, rule_followed, frame_if, is_admitted, least_wait, listening_if, served, served_counted, soonest, upkeep_at, upkeeps_then};
-ghost use Rattle.dccp_server.specs.Upkeeps.{call_for_rule, ratio_held, rule_call, sight_if, upkeep_begins};
+ghost use Rattle.dccp_server.specs.Upkeeps.{call_for_rule, ratio_held, rule_call, sight_if};
+ghost use Rattle.dccp_uses.specs.Upkeeps.{upkeep_begins};
 
 use crate::happening::{FlowHappening, arrived_so, called_so};
-use crate::upkeep::Upkeep;
 use ccid_two::Kinds;
 use dccp_endpoint::{Endpoint, Feature, NoMemory, Outbox, Place, Seen, Seq48, Timer, UserCall};
 use dccp_listener::{Heard, Listener, NoFlow, Peer};
-use dccp_uses::{Due, Pace, Reader, Rule, Sight, admit, due_rule};
+use dccp_uses::{Due, Pace, Reader, Rule, Sight, Upkeep, admit, due_rule};
 use server_peers::{Register, Ticket};
 
 // What the rules see of a peer's end, if it has one.
@@ -91,7 +91,7 @@ fn arrange(
     match listener.flow(peer) {
         Some(end) => {
             let mut next = *upkeep;
-            next.note(happening, end, pace, now);
+            happening.tell(&mut next, end, pace, now);
             upkeeps.put(peer, &next);
         }
         None => {

@@ -4,11 +4,10 @@ ghost use Rattle.std.specs.Prelude.{◌≡◌};
 use crate::serving::{
     act, arrive, first_due_flow, follow, least_wait, reader_at, spend, upkeep_at,
 };
-use crate::upkeep::Upkeep;
 use ccid_two::Kinds;
 use dccp_endpoint::{Endpoint, NoMemory, Outbox, Outcome, Seen, Seq48, UserCall};
 use dccp_listener::{Heard, ListenConfig, Listener, NoFlow, Peer};
-use dccp_uses::{Due, Pace, Reader, admit};
+use dccp_uses::{Due, Pace, Reader, Upkeep, admit};
 use server_peers::Register;
 use std::alloc::Global;
 use std::marker::Model;

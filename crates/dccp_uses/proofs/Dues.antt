@@ -3,7 +3,7 @@ use Rattle.std.proofs.Common.{◌≡◌, refl, sym, subst, ℕ, max, List, [], �
 use Rattle.std.proofs.lemmas.Bool.{false≢true}
 use Rattle.congestion_trait.specs.Control.{Control}
 use Rattle.dccp_endpoint.specs.Calling.{applies_in, fires}
-use Rattle.dccp_endpoint.specs.Controlled.{End, EndStep, has_in_flight, with_control}
+use Rattle.dccp_endpoint.specs.Controlled.{End, has_in_flight, with_control}
 use Rattle.dccp_states.specs.declared.calls.Timer.{Timer}
 use Rattle.dccp_states.specs.declared.calls.Timer.TheVariants as timers
 use Rattle.dccp_uses.specs.Alarms.{alarm_of, has_run_out, is_idle, rung_by, starting_wait_by}
@@ -12,7 +12,8 @@ use Rattle.dccp_uses.specs.Holding.{HoldingState}
 use Rattle.dccp_uses.specs.Path.{path_waits, rules_alarm, sight_of}
 use Rattle.dccp_uses.specs.Rules.{alarms_by_rule, due_rule, path_by_rule, rule_does}
 use Rattle.dccp_uses.specs.Sessions.{Does, NoneIsDue, holding_rings, rings_due, rings_each_due, stands_still}
-use Rattle.dccp_uses.specs.Timed.{TimedState, TimedStep, due_alarm, due_told, every_due, timed_told_if, timers_go_on, ruled_condition}
+use Rattle.dccp_uses.specs.Timed.{TimedState, TimedStep, due_told}
+use Rattle.dccp_uses.specs.Upkeeps.{due_alarm, every_due, kept_on, kept_rung_if, ruled_condition}
 use Rattle.dccp_uses.specs.Path.{arranged_rules, rules_left, told_timer}
 use Rattle.dccp_uses.specs.declared.alarms.Alarm.{Alarm}
 use Rattle.dccp_uses.specs.declared.alarms.Alarms.{Alarms}
@@ -21,6 +22,7 @@ use Rattle.dccp_uses.specs.declared.rule.Rule.{Rule}
 use Rattle.dccp_uses.specs.declared.rule.Rule.TheVariants as rule
 use Rattle.dccp_uses.specs.declared.timed_end.Due.{Due}
 use Rattle.dccp_uses.specs.declared.timed_end.Due.TheVariants as due
+use Rattle.dccp_uses.specs.declared.upkeep.Upkeep.{Upkeep}
 use Rattle.dccp_uses.specs.declared.waits.Waits.{Waits}
 use Rattle.dccp_uses.proofs.Ringing.{arranged_stays, back_runs, fresh_runs, told_stays}
 
@@ -96,65 +98,67 @@ none-rests (Some alarm) applies now is = absurd (false≢true is)
 module _ {C : Type 0} (control : Control C) (now : ℕ) where
   -- where the timers go on, one that has not run out stays so
   goes-quiet : (least : ℕ) (alarms : Alarms) (path : Path) (end : End C) (timer : Timer) → has_run_out (alarm_of alarms timer) now ≡ false
-      → has_run_out (alarm_of (timers_go_on control now least alarms path end).alarms timer) now ≡ false
+      → has_run_out (alarm_of (kept_on control now least alarms path end).alarms timer) now ≡ false
   goes-quiet least alarms path end timer quiet =
       arranged_stays (path_waits path) alarms timer (ruled_condition path (sight_of control end)) now quiet
 
-  abbrev told-so : TimedState C → Timer → EndStep C Bool
-  told-so s timer = with_control control s.end.congestion (fires s.end.state timer (has_in_flight control s.end.congestion))
+  abbrev told-so : TimedState C → Timer → End C
+  told-so s timer = (with_control control s.end.congestion (fires s.end.state timer (has_in_flight control s.end.congestion))).after
 
-  itself-if : (s : TimedState C) (timer : Timer) (step : EndStep C Bool) (idle : Bool) → is_idle s.alarms timer step.after.state.phase ≡ idle
-      → has_run_out (alarm_of (timed_told_if control now s timer step idle).timed.alarms timer) now ≡ false
-  itself-if s timer step true is = none-rests (alarm_of s.alarms timer) (applies_in timer step.after.state.phase) now is
-  itself-if s timer step false is =
-      goes-quiet 0 (rung_by (path_waits s.path) s.alarms timer now) (told_timer s.path timer (sight_of control step.after) now) step.after timer
-      (told_stays (path_waits s.path) s.alarms timer now)
+  itself-if : (u : Upkeep) (timer : Timer) (end : End C) (idle : Bool) → is_idle u.alarms timer end.state.phase ≡ idle
+      → has_run_out (alarm_of (kept_rung_if control now u timer end idle).alarms timer) now ≡ false
+  itself-if u timer end true is = none-rests (alarm_of u.alarms timer) (applies_in timer end.state.phase) now is
+  itself-if u timer end false is =
+      goes-quiet 0 (rung_by (path_waits u.path) u.alarms timer now) (told_timer u.path timer (sight_of control end) now) end timer
+      (told_stays (path_waits u.path) u.alarms timer now)
 
-  told-itself : (s : TimedState C) (it : Due) → has_run_out (due_alarm (due_told control now s it).timed it) now ≡ false
-  told-itself s (due.Timer timer) = itself-if s timer (told-so s timer) (is_idle s.alarms timer (told-so s timer).after.state.phase) refl
+  told-itself : (s : TimedState C) (it : Due) → has_run_out (due_alarm (due_told control now s it).timed.upkeep it) now ≡ false
+  told-itself s (due.Timer timer) = itself-if s.upkeep timer (told-so s timer) (is_idle s.upkeep.alarms timer (told-so s timer).state.phase) refl
   told-itself s due.Rules =
-      let it = due_rule s.path now in
-      let step = rule_does control s.end it s.path.aim in
-      let path = path_by_rule s.path it (sight_of control step.after) now in
-      let wait = starting_wait_by (path_waits path) (alarms_by_rule (path_waits s.path) s.alarms it now) timers.Rto in
+      let u = s.upkeep in
+      let it = due_rule u.path now in
+      let step = rule_does control s.end it u.path.aim in
+      let path = path_by_rule u.path it (sight_of control step.after) now in
+      let wait = starting_wait_by (path_waits path) (alarms_by_rule (path_waits u.path) u.alarms it now) timers.Rto in
       rules-rest (rules_left (arranged_rules path wait (sight_of control step.after) now) now) now
 
-  another-if : (s : TimedState C) (told timer : Timer) (step : EndStep C Bool) (idle : Bool) → has_run_out (alarm_of s.alarms timer) now ≡ false
-      → has_run_out (alarm_of (timed_told_if control now s told step idle).timed.alarms timer) now ≡ false
-  another-if s told timer step true quiet = quiet
-  another-if s told timer step false quiet =
-      goes-quiet 0 (rung_by (path_waits s.path) s.alarms told now) (told_timer s.path told (sight_of control step.after) now) step.after timer
-      (told-keeps (path_waits s.path) s.alarms told timer now quiet)
+  another-if : (u : Upkeep) (told timer : Timer) (end : End C) (idle : Bool) → has_run_out (alarm_of u.alarms timer) now ≡ false
+      → has_run_out (alarm_of (kept_rung_if control now u told end idle).alarms timer) now ≡ false
+  another-if u told timer end true quiet = quiet
+  another-if u told timer end false quiet =
+      goes-quiet 0 (rung_by (path_waits u.path) u.alarms told now) (told_timer u.path told (sight_of control end) now) end timer
+      (told-keeps (path_waits u.path) u.alarms told timer now quiet)
 
-  told-another : (s : TimedState C) (it : Due) (timer : Timer) → has_run_out (alarm_of s.alarms timer) now ≡ false
-      → has_run_out (alarm_of (due_told control now s it).timed.alarms timer) now ≡ false
+  told-another : (s : TimedState C) (it : Due) (timer : Timer) → has_run_out (alarm_of s.upkeep.alarms timer) now ≡ false
+      → has_run_out (alarm_of (due_told control now s it).timed.upkeep.alarms timer) now ≡ false
   told-another s (due.Timer told) timer quiet =
-      another-if s told timer (told-so s told) (is_idle s.alarms told (told-so s told).after.state.phase) quiet
+      another-if s.upkeep told timer (told-so s told) (is_idle s.upkeep.alarms told (told-so s told).state.phase) quiet
   told-another s due.Rules timer quiet =
-      let it = due_rule s.path now in
-      let step = rule_does control s.end it s.path.aim in
-      goes-quiet 1 (alarms_by_rule (path_waits s.path) s.alarms it now) (path_by_rule s.path it (sight_of control step.after) now) step.after timer
-      (rule-keeps (path_waits s.path) s.alarms it timer now quiet)
+      let u = s.upkeep in
+      let it = due_rule u.path now in
+      let step = rule_does control s.end it u.path.aim in
+      goes-quiet 1 (alarms_by_rule (path_waits u.path) u.alarms it now) (path_by_rule u.path it (sight_of control step.after) now) step.after timer
+      (rule-keeps (path_waits u.path) u.alarms it timer now quiet)
 
   abbrev rung-if : TimedState C → Due → Bool → TimedStep C Bool
   rung-if s it is = if is then due_told control now s it else stands_still s
 
-  itself-by : (s : TimedState C) (it : Due) (is : Bool) → has_run_out (due_alarm s it) now ≡ is
-      → has_run_out (due_alarm (rung-if s it is).timed it) now ≡ false
+  itself-by : (s : TimedState C) (it : Due) (is : Bool) → has_run_out (due_alarm s.upkeep it) now ≡ is
+      → has_run_out (due_alarm (rung-if s it is).timed.upkeep it) now ≡ false
   itself-by s it true same = told-itself s it
   itself-by s it false same = same
 
-  pub rung_rests : (s : TimedState C) (it : Due) → has_run_out (due_alarm (rings_due control now s it).timed it) now ≡ false
-  rung_rests s it = itself-by s it (has_run_out (due_alarm s it) now) refl
+  pub rung_rests : (s : TimedState C) (it : Due) → has_run_out (due_alarm (rings_due control now s it).timed.upkeep it) now ≡ false
+  rung_rests s it = itself-by s it (has_run_out (due_alarm s.upkeep it) now) refl
 
-  another-by : (s : TimedState C) (it : Due) (timer : Timer) (is : Bool) → has_run_out (alarm_of s.alarms timer) now ≡ false
-      → has_run_out (alarm_of (rung-if s it is).timed.alarms timer) now ≡ false
+  another-by : (s : TimedState C) (it : Due) (timer : Timer) (is : Bool) → has_run_out (alarm_of s.upkeep.alarms timer) now ≡ false
+      → has_run_out (alarm_of (rung-if s it is).timed.upkeep.alarms timer) now ≡ false
   another-by s it timer true quiet = told-another s it timer quiet
   another-by s it timer false quiet = quiet
 
-  pub other_rests : (s : TimedState C) (it : Due) (timer : Timer) → has_run_out (alarm_of s.alarms timer) now ≡ false
-      → has_run_out (alarm_of (rings_due control now s it).timed.alarms timer) now ≡ false
-  other_rests s it timer quiet = another-by s it timer (has_run_out (due_alarm s it) now) quiet
+  pub other_rests : (s : TimedState C) (it : Due) (timer : Timer) → has_run_out (alarm_of s.upkeep.alarms timer) now ≡ false
+      → has_run_out (alarm_of (rings_due control now s it).timed.upkeep.alarms timer) now ≡ false
+  other_rests s it timer quiet = another-by s it timer (has_run_out (due_alarm s.upkeep it) now) quiet
 
   -- each that is due, one after another, of an end by itself
   abbrev pub rung_in_order : TimedState C → List Due → TimedState C
@@ -167,8 +171,8 @@ module _ {C : Type 0} (control : Control C) (now : ℕ) where
   rung_beside h [] = refl
   rung_beside h (it ∷ rest) = rung_beside (holding_rings control now h it).holding rest
 
-  through : (list : List Due) (s : TimedState C) (timer : Timer) → has_run_out (alarm_of s.alarms timer) now ≡ false
-      → has_run_out (alarm_of (rung_in_order s list).alarms timer) now ≡ false
+  through : (list : List Due) (s : TimedState C) (timer : Timer) → has_run_out (alarm_of s.upkeep.alarms timer) now ≡ false
+      → has_run_out (alarm_of (rung_in_order s list).upkeep.alarms timer) now ≡ false
   through [] s timer quiet = quiet
   through (it ∷ rest) s timer quiet = through rest (rings_due control now s it).timed timer (other_rests s it timer quiet)
 
@@ -184,7 +188,7 @@ module _ {C : Type 0} (control : Control C) (now : ℕ) where
       let d = once c (due.Timer timers.Rto) in
       let e = once d (due.Timer timers.Close) in
       let f = once e (due.Timer timers.TimeWait) in
-      let P : Due → Type 0 = λ (x : Due). has_run_out (due_alarm (once f due.Rules) x) now ≡ false in
+      let P : Due → Type 0 = λ (x : Due). has_run_out (due_alarm (once f due.Rules).upkeep x) now ≡ false in
       let by-timer : (timer : Timer) → P (due.Timer timer) = λ timer.
       elim timer as (λ (t : Timer). P (due.Timer t)) [
         | timers.Request ↦ through (due.Timer timers.Ack ∷ due.Timer timers.Negotiate ∷ due.Timer timers.Rto ∷ due.Timer timers.Close ∷ due.Timer timers.TimeWait ∷ due.Rules ∷ []) a timers.Request (rung_rests s (due.Timer timers.Request))

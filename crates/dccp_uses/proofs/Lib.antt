@@ -8,6 +8,5 @@ pub mod Classic
 mod RowsPath
 mod RowsReader
 pub mod Numbering
-pub mod Obeying
 pub mod Told
 mod Beside

@@ -8,7 +8,7 @@ use Rattle.path_rules.specs.RoundTrip.{with_sample}
 use Rattle.dccp_uses.specs.Alarms.{classic_waits, ack_hurried_by, no_alarms, rung_by}
 use Rattle.dccp_uses.specs.Path.{aim_of, aimed, arranged_path, classic_pace, data_timed, handshake_timed, measured, path_begins, path_heard, path_waits, patience, ruled_patience, used_window, usual_pace, with_flight}
 use Rattle.dccp_uses.specs.Rules.{alarms_by_rule, due_rule, path_by_rule}
-use Rattle.dccp_uses.specs.Timed.{acks_now, is_hole}
+use Rattle.dccp_uses.specs.Upkeeps.{acks_now, is_hole}
 use Rattle.dccp_uses.specs.declared.alarms.Alarm.{Alarm}
 use Rattle.dccp_uses.specs.declared.alarms.Alarms.{Alarms}
 use Rattle.dccp_uses.specs.declared.path.Path.{Path}

@@ -14,6 +14,7 @@ pub mod Path
 pub mod Reader
 pub mod Rules
 pub mod Timed
+pub mod Upkeeps
 pub mod Sessions
 pub mod Syncs
 pub mod Inputs

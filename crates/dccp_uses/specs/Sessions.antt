@@ -11,7 +11,8 @@ use Rattle.dccp_uses.specs.Handing.{Hands}
 use Rattle.dccp_uses.specs.Holding.{HoldingState, HoldingStep, holds_heard, steps_beside}
 use Rattle.dccp_uses.specs.declared.holding.Reading.{Reading}
 use Rattle.dccp_uses.specs.Session.{is_listening, news_of}
-use Rattle.dccp_uses.specs.Timed.{TimedState, TimedStep, due_alarm, due_told, timed_takes}
+use Rattle.dccp_uses.specs.Timed.{TimedState, TimedStep, due_told, timed_takes}
+use Rattle.dccp_uses.specs.Upkeeps.{due_alarm}
 use Rattle.dccp_uses.specs.declared.news.News.{News}
 use Rattle.dccp_uses.specs.declared.news.News.TheVariants as news
 use Rattle.dccp_uses.specs.declared.timed_end.Due.{Due}
@@ -67,7 +68,7 @@ stands_still s = record { timed = s; frame = None; answer = false }
 
 -- the end does what is due, if it is
 abbrev pub rings_due : {C : Type 0} → Control C → ℕ → TimedState C → Due → TimedStep C Bool
-rings_due control now s due = if has_run_out (due_alarm s due) now then due_told control now s due else stands_still s
+rings_due control now s due = if has_run_out (due_alarm s.upkeep due) now then due_told control now s due else stands_still s
 
 -- the same with an inbox and a cookie
 abbrev pub holding_rings : {C : Type 0} → Control C → ℕ → HoldingState C → Due → HoldingStep C Bool
@@ -90,7 +91,7 @@ rings_each_due control now h (it ∷ rest) =
 
 -- nothing is due
 abbrev pub NoneIsDue : {C : Type 0} → ℕ → TimedState C → Type 0
-NoneIsDue now s = (it : Due) → has_run_out (due_alarm s it) now ≡ false
+NoneIsDue now s = (it : Due) → has_run_out (due_alarm s.upkeep it) now ≡ false
 
 -- the session of an end, if it has left LISTEN
 abbrev pub unless_it_listens : {C : Type 0} → HoldingState C → Bool → Option (HoldingState C)

@@ -1,7 +1,7 @@
 //! When each timer of an end runs out. The times are those of its owner, in milliseconds since any moment.
 ghost use Rattle.std.specs.Prelude.{◌≡◌};
 ghost use Rattle.dccp_uses.specs.Alarms.{alarm_after, alarm_of, arranged_by, arranged_alarm_by, ack_hurried_by, first_again, has_run_out, is_idle, time_left, next_wait, no_alarms, progressed_by, rung_by, runs_in, set_back, sooner, starting_wait_by};
-ghost use Rattle.dccp_uses.specs.Timed.{acks_now};
+ghost use Rattle.dccp_uses.specs.Upkeeps.{acks_now};
 
 use crate::Waits;
 use dccp_endpoint::{Congestion, Endpoint, Phase, Timer, applies_in};

@@ -10,7 +10,7 @@
 //! A [`Pace`] says which rules are followed, and [`Path`] is what is kept of the path for them. The rules' formulas are
 //! those of path_rules. The rules make an end do only what a caller or a timer may (`rules_are_inputs`). If none is
 //! followed, a `TimedEnd` is an end with only its timers (`classic_is_the_session`). An owner that keeps ends in
-//! another way can use the same steps one by one, from [`Sight`], which is what the rules see of an end, to [`obey`].
+//! another way has an [`Upkeep`] for each: its timers and its path.
 //!
 //! It has two kinds of congestion control, [`OneAtATime`] and [`AdditiveWindow`]. This crate is an example to read and
 //! to copy from; dccp_greeting is a program over it.
@@ -38,6 +38,7 @@ mod session;
 mod sight;
 mod syncs;
 mod timed_end;
+mod upkeep;
 mod waits;
 
 pub use crate::additive_window::AdditiveWindow;
@@ -60,5 +61,6 @@ pub use crate::rule::{Rule, due_rule, obey};
 pub use crate::session::Session;
 pub use crate::sight::Sight;
 pub use crate::syncs::admit;
-pub use crate::timed_end::{Due, TimedEnd, is_hole, ruled_condition};
+pub use crate::timed_end::{Due, TimedEnd};
+pub use crate::upkeep::{HeardDatagram, Upkeep};
 pub use crate::waits::Waits;

@@ -2,7 +2,7 @@
 ghost use Rattle.std.specs.Prelude.{◌≡◌};
 ghost use Rattle.dccp_uses.specs.Session.{has_closed, is_delivery, news_of};
 ghost use Rattle.dccp_uses.specs.Sessions.{news_if, news_kept};
-ghost use Rattle.dccp_uses.specs.Timed.{is_taken};
+ghost use Rattle.dccp_uses.specs.Upkeeps.{is_taken};
 
 use data_dropped::Arrival;
 use dccp_endpoint::{Outcome, Phase};

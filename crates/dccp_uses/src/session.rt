@@ -84,8 +84,9 @@ impl<C: Congestion> Session<C> {
     ghost use Rattle.path_rules.specs.Allowance.{window_within};
     ghost use Rattle.dccp_uses.specs.Handing.{Hands, HandsAll};
     ghost use Rattle.dccp_uses.specs.Holding.{holding_frame, steps_beside};
-    ghost use Rattle.dccp_uses.specs.Timed.{every_due, first_wait_left, timed_aborts, timed_closes, timed_opens, timed_prefers, timed_sends};
+    ghost use Rattle.dccp_uses.specs.Timed.{first_wait_left, timed_aborts, timed_closes, timed_opens, timed_prefers, timed_sends};
     ghost use Rattle.dccp_uses.specs.Sessions.{Does, NoneIsDue, holding_hears, holding_rings, rings_each_due};
+    ghost use Rattle.dccp_uses.specs.Upkeeps.{every_due};
 
     /// The end, to be read.
     pub fn end(&self) -> &Endpoint<C>
@@ -96,14 +97,14 @@ impl<C: Congestion> Session<C> {
 
     /// The timers that run.
     pub fn alarms(&self) -> &Alarms
-        ensures { result.now ≡ self.now.timed.alarms }
+        ensures { result.now ≡ self.now.timed.upkeep.alarms }
     {
         self.timed.alarms()
     }
 
     /// What is kept of its path.
     pub fn path(&self) -> &Path
-        ensures { result.now ≡ self.now.timed.path }
+        ensures { result.now ≡ self.now.timed.upkeep.path }
     {
         self.timed.path()
     }
@@ -118,7 +119,7 @@ impl<C: Congestion> Session<C> {
     /// For how many further data packets the window has room, as far as the application that reads them allows. If it
     /// is 0, `send` is refused, with `WindowFull` or `Held`.
     pub fn room(&self) -> u32
-        ensures { result ≡ window_within self.now.timed.path.reader.allowance (window_of C.control self.now.timed.end.congestion) - in_flight_of C.control self.now.timed.end.congestion }
+        ensures { result ≡ window_within self.now.timed.upkeep.path.reader.allowance (window_of C.control self.now.timed.end.congestion) - in_flight_of C.control self.now.timed.end.congestion }
     {
         let end = self.timed.end();
         let window = window_within(self.timed.path().reader.allowance, end.window());

@@ -1,13 +1,11 @@
 //! An end with its timers and the rules of its path, for an owner that carries its frames.
 ghost use Rattle.std.specs.Prelude.{◌≡◌, not, is_some};
-ghost use Rattle.dccp_uses.specs.Timed.{is_hole, ruled_condition};
 
-use crate::alarms::{Alarm, Alarms, Condition, has_run_out, sooner, starting_wait};
-use crate::news::{is_delivery, is_taken};
+use crate::alarms::{Alarms, sooner};
 use crate::reader::restraint_of;
 use crate::rule::{due_rule, obey};
 use crate::syncs::admit;
-use crate::{Pace, Path, Restraint, Rule, SendRefusal, Sight};
+use crate::{HeardDatagram, Pace, Path, Restraint, Rule, SendRefusal, Sight, Upkeep};
 use dccp_endpoint::{
     AbortFault, CloseFault, Config, Congestion, Endpoint, Feature, NoMemory, OpenFault, Outbox,
     Outcome, Place, PreferFault, SendFault, Timer,
@@ -30,8 +28,7 @@ pub enum Due {
 #[derive(Drop)]
 pub struct TimedEnd<C> {
     end: Endpoint<C>,
-    alarms: Alarms,
-    path: Path,
+    upkeep: Upkeep,
 }
 
 impl<C> Model for TimedEnd<C> {
@@ -39,26 +36,7 @@ impl<C> Model for TimedEnd<C> {
 
     ghost Value = { TimedState C };
 
-    ghost view = { λ s. record { end = s.end; alarms = s.alarms; path = s.path } };
-}
-
-/// The condition by which the timers of an end run, if the rules see `sight` of it (own): rto does not run while a
-/// question comes first.
-pub fn ruled_condition(path: &Path, sight: &Sight) -> Condition
-    ensures { result ≡ ruled_condition path.now sight.now }
-{
-    Condition {
-        phase: sight.phase,
-        in_flight: 0 < sight.in_flight && !path.is_probing(sight),
-    }
-}
-
-/// Whether a packet has brought data that show a hole before them (own). `old` and `new` are what the rules saw of the
-/// end before and after the packet; `silent` says that no answer went out, which would have reported the hole.
-pub fn is_hole(path: &Path, old: &Sight, new: &Sight, delivered: bool, silent: bool) -> bool
-    ensures { result ≡ is_hole path.now old.now new.now delivered silent }
-{
-    path.pace.acks_soon && delivered && silent && 1 < old.gsr.distance(new.gsr)
+    ghost view = { λ s. record { end = s.end; upkeep = s.upkeep } };
 }
 
 fn is_silent(out: &Outbox) -> bool
@@ -84,8 +62,7 @@ impl<C: Congestion + Drop> TimedEnd<C> {
         let end = Endpoint::new(alloc, config, congestion)?;
         Ok(TimedEnd {
             end,
-            alarms: Alarms::none(),
-            path: Path::new(pace),
+            upkeep: Upkeep::begins(pace),
         })
     }
 }
@@ -95,10 +72,11 @@ impl<C: Congestion> TimedEnd<C> {
     ghost use Rattle.dccp_endpoint.specs.Controlled.{in_flight_of};
     ghost use Rattle.dccp_endpoint.specs.Outcomes.{HasCause};
     ghost use Rattle.dccp_states.specs.declared.calls.Timer.TheVariants as timers;
-    ghost use Rattle.dccp_uses.specs.Alarms.{has_run_out, rung_by, starting_wait_by};
-    ghost use Rattle.dccp_uses.specs.Path.{path_waits, sight_of, told_timer};
+    ghost use Rattle.dccp_uses.specs.Alarms.{has_run_out, starting_wait_by};
+    ghost use Rattle.dccp_uses.specs.Path.{path_waits};
     ghost use Rattle.dccp_uses.specs.Reader.{restraint_of};
-    ghost use Rattle.dccp_uses.specs.Timed.{due_alarm, due_told, every_due, first_due_of, first_wait_left, timers_go_on, timers_go_on_seen, obeys, timed_aborts, timed_closes, timed_fires, timed_hands, timed_hears, timed_opens, timed_prefers, timed_sends, timed_takes, tells_rules};
+    ghost use Rattle.dccp_uses.specs.Timed.{due_told, first_wait_left, obeys, timed_aborts, timed_closes, timed_fires, timed_hands, timed_hears, timed_opens, timed_prefers, timed_sends, timed_takes, tells_rules};
+    ghost use Rattle.dccp_uses.specs.Upkeeps.{due_alarm, every_due, first_due};
 
     /// The end, to be read.
     pub fn end(&self) -> &Endpoint<C>
@@ -109,43 +87,23 @@ impl<C: Congestion> TimedEnd<C> {
 
     /// The timers that run.
     pub fn alarms(&self) -> &Alarms
-        ensures { result.now ≡ self.now.alarms }
+        ensures { result.now ≡ self.now.upkeep.alarms }
     {
-        &self.alarms
+        &self.upkeep.alarms
     }
 
     /// What is kept of its path.
     pub fn path(&self) -> &Path
-        ensures { result.now ≡ self.now.path }
+        ensures { result.now ≡ self.now.upkeep.path }
     {
-        &self.path
+        &self.upkeep.path
     }
 
     /// How long the sender waits for a report from now on, in milliseconds (RFC 6298).
     pub fn timeout(&self) -> u64
-        ensures { result ≡ starting_wait_by (path_waits self.now.path) self.now.alarms timers.Rto }
+        ensures { result ≡ starting_wait_by (path_waits self.now.upkeep.path) self.now.upkeep.alarms timers.Rto }
     {
-        starting_wait(&self.path.waits(), &self.alarms, Timer::Rto)
-    }
-
-    // The timers and the rules go on, by what the rules see of the end; no rule is due before `least` milliseconds have
-    // gone by.
-    fn go_on_seen(&mut self, sight: &Sight, least: u64, now: u64)
-        ensures { self.new ≡ timers_go_on_seen now least self.old.alarms self.old.path sight.now self.old.end }
-    {
-        let waits = self.path.waits();
-        let wait = starting_wait(&waits, &self.alarms, Timer::Rto);
-        let condition = ruled_condition(&self.path, sight);
-        self.alarms.arrange(&waits, &condition, now);
-        self.path.arrange(wait, sight, least, now);
-    }
-
-    // The timers and the rules go on.
-    fn go_on(&mut self, now: u64)
-        ensures { self.new ≡ timers_go_on C.control now 0 self.old.alarms self.old.path self.old.end }
-    {
-        let sight = Sight::of(&self.end);
-        self.go_on_seen(&sight, 0, now);
+        self.upkeep.timeout()
     }
 
     /// A client asks for its service, once. Refused as `Endpoint::open` is; then nothing has changed and there is no
@@ -156,25 +114,23 @@ impl<C: Congestion> TimedEnd<C> {
         ensures sends_nothing { OnErr result (out.new ≡ None) }
     {
         self.end.open(out)?;
-        let gss = self.end.marks().gss;
-        self.path.time_handshake(gss, now);
-        self.go_on(now);
+        self.upkeep.open(&self.end, now);
         Ok(())
     }
 
     /// Why data have to wait for the application that reads them, or None if they need not (RFC 4340, sections 11.6 and
     /// 11.7).
     pub fn restraint(&self) -> Option<Restraint>
-        ensures { result ≡ restraint_of self.now.path.reader (in_flight_of C.control self.now.end.congestion) }
+        ensures { result ≡ restraint_of self.now.upkeep.path.reader (in_flight_of C.control self.now.end.congestion) }
     {
-        restraint_of(&self.path.reader, self.end.in_flight())
+        restraint_of(&self.upkeep.path.reader, self.end.in_flight())
     }
 
     /// Sends data, at most 1,024 bytes. Refused with `Held` exactly if there is a `restraint`; otherwise refused as
     /// `Endpoint::send_soon` is. Then nothing has changed and there is no frame.
     pub fn send(&mut self, payload: &[u8], now: u64, out: &mut Outbox) -> Result<(), SendRefusal>
         ensures step { record { timed = self.new; frame = out.new; answer = result } ≡ timed_sends C.control now self.old payload.now }
-        ensures held { (why : Restraint) → (result ≡ Err (SendRefusal.Held why)) ↔ (restraint_of self.old.path.reader (in_flight_of C.control self.old.end.congestion) ≡ Some why) }
+        ensures held { (why : Restraint) → (result ≡ Err (SendRefusal.Held why)) ↔ (restraint_of self.old.upkeep.path.reader (in_flight_of C.control self.old.end.congestion) ≡ Some why) }
         ensures refused { OnErr result (self.new ≡ self.old) }
         ensures sends_nothing { OnErr result (out.new ≡ None) }
     {
@@ -195,11 +151,7 @@ impl<C: Congestion> TimedEnd<C> {
         ensures sends_nothing { OnErr result (out.new ≡ None) }
     {
         self.end.send_soon(payload, out)?;
-        let gss = self.end.marks().gss;
-        self.path.time_data(gss, now);
-        let in_flight = self.end.in_flight();
-        self.path.note_flight(in_flight, now);
-        self.go_on(now);
+        self.upkeep.send(&self.end, now);
         Ok(())
     }
 
@@ -218,8 +170,7 @@ impl<C: Congestion> TimedEnd<C> {
         ensures sends_nothing { OnErr result (out.new ≡ None) }
     {
         self.end.prefer(feature, place, values, out)?;
-        self.alarms.negotiate = None;
-        self.go_on(now);
+        self.upkeep.prefer(&self.end, now);
         Ok(())
     }
 
@@ -230,8 +181,7 @@ impl<C: Congestion> TimedEnd<C> {
         ensures sends_nothing { OnErr result (out.new ≡ None) }
     {
         self.end.close(out)?;
-        self.path.give_up = None;
-        self.go_on(now);
+        self.upkeep.close(&self.end, now);
         Ok(())
     }
 
@@ -242,7 +192,7 @@ impl<C: Congestion> TimedEnd<C> {
         ensures sends_nothing { OnErr result (out.new ≡ None) }
     {
         self.end.abort(out)?;
-        self.go_on(now);
+        self.upkeep.go_on(&self.end, now);
         Ok(())
     }
 
@@ -253,7 +203,7 @@ impl<C: Congestion> TimedEnd<C> {
         ensures step { record { timed = self.new; frame = out.new; answer = result } ≡ timed_takes C.control now self.old datagram.now }
         ensures cause { IfSome result (λ outcome. HasCause self.old.end.state datagram.now outcome) }
     {
-        let heard = admit(&self.end, &mut self.path, datagram, now);
+        let heard = admit(&self.end, &mut self.upkeep.path, datagram, now);
         if !heard {
             out.clear();
             return None;
@@ -267,17 +217,10 @@ impl<C: Congestion> TimedEnd<C> {
         ensures step { record { timed = self.new; frame = out.new; answer = result } ≡ timed_hears C.control now self.old datagram.now }
         ensures cause { HasCause self.old.end.state datagram.now result }
     {
-        let old = Sight::of(&self.end);
+        let was = Sight::of(&self.end);
         let outcome = self.end.receive(datagram, out);
-        let new = Sight::of(&self.end);
-        let delivered = is_delivery(&outcome);
-        let hole = is_hole(&self.path, &old, &new, delivered, is_silent(out));
-        self.path.hear(&old, &new, is_taken(&outcome), now);
-        let waits = self.path.waits();
-        let progress = new.in_flight < old.in_flight;
-        self.alarms
-            .note_packet(&waits, progress, delivered, hole, now);
-        self.go_on_seen(&new, 0, now);
+        let heard = HeardDatagram::new(was, &outcome, is_silent(out));
+        self.upkeep.hear(&heard, &self.end, now);
         outcome
     }
 
@@ -287,29 +230,15 @@ impl<C: Congestion> TimedEnd<C> {
         ensures { record { timed = self.new; frame = out.new; answer = result } ≡ timed_fires C.control now self.old timer }
     {
         let applies = self.end.timer(timer, out);
-        if self.alarms.is_idle(timer, self.end.phase()) {
-            return applies;
-        }
-        self.ring(timer, now);
+        self.upkeep.ring(timer, &self.end, now);
         applies
-    }
-
-    // The end was called for this timer: the timers and the rules go on.
-    fn ring(&mut self, timer: Timer, now: u64)
-        ensures { self.new ≡ timers_go_on C.control now 0 (rung_by (path_waits self.old.path) self.old.alarms timer now) (told_timer self.old.path timer (sight_of C.control self.old.end) now) self.old.end }
-    {
-        let waits = self.path.waits();
-        self.alarms.ring(&waits, timer, now);
-        let sight = Sight::of(&self.end);
-        self.path.note_timer(timer, &sight, now);
-        self.go_on_seen(&sight, 0, now);
     }
 
     // The first rule that is due makes its end do something. False if none does.
     fn obey_rules(&mut self, now: u64, out: &mut Outbox) -> bool
         ensures { record { timed = self.new; frame = out.new; answer = result } ≡ tells_rules C.control now self.old }
     {
-        let rule = due_rule(&self.path, now);
+        let rule = due_rule(&self.upkeep.path, now);
         self.obey_rule(rule, now, out)
     }
 
@@ -317,30 +246,16 @@ impl<C: Congestion> TimedEnd<C> {
     fn obey_rule(&mut self, rule: Rule, now: u64, out: &mut Outbox) -> bool
         ensures { record { timed = self.new; frame = out.new; answer = result } ≡ obeys C.control now self.old rule }
     {
-        let waits = self.path.waits();
-        self.alarms.note_rule(&waits, rule, now);
-        let did = obey(&mut self.end, rule, self.path.aim, out);
-        let sight = Sight::of(&self.end);
-        self.path.note_rule(rule, &sight, now);
-        self.go_on_seen(&sight, 1, now);
+        let did = obey(&mut self.end, rule, self.upkeep.path.aim, out);
+        self.upkeep.follow(rule, &self.end, now);
         did
     }
 
-    /// The alarm of what may be due.
-    pub fn alarm(&self, due: Due) -> Option<Alarm>
-        ensures { result ≡ due_alarm self.now due }
-    {
-        match due {
-            Due::Timer(timer) => self.alarms.of(timer),
-            Due::Rules => self.path.rules,
-        }
-    }
-
-    /// Whether it is due at this time.
+    /// Whether a timer, or a rule, is due at this time.
     pub fn is_due(&self, due: Due, now: u64) -> bool
-        ensures { result ≡ has_run_out (due_alarm self.now due) now }
+        ensures { result ≡ has_run_out (due_alarm self.now.upkeep due) now }
     {
-        has_run_out(self.alarm(due), now)
+        self.upkeep.is_due(due, now)
     }
 
     /// Does what is due: a timer, or what a rule makes the end do. Returns whether the end had something to do.
@@ -357,34 +272,17 @@ impl<C: Congestion> TimedEnd<C> {
     pub fn until_first(&self, now: u64) -> Option<u64>
         ensures { result ≡ first_wait_left self.now now }
     {
-        sooner(self.alarms.until_first(now), self.path.rules, now)
+        sooner(
+            self.upkeep.alarms.until_first(now),
+            self.upkeep.path.rules,
+            now,
+        )
     }
 
     /// The first of what is due, in a session's order: the six timers, and then the rules.
     pub fn due(&self, now: u64) -> Option<Due>
-        ensures { result ≡ first_due_of self.now now every_due }
+        ensures { result ≡ first_due self.now.upkeep now every_due }
     {
-        if self.is_due(Due::Timer(Timer::Request), now) {
-            return Some(Due::Timer(Timer::Request));
-        }
-        if self.is_due(Due::Timer(Timer::Ack), now) {
-            return Some(Due::Timer(Timer::Ack));
-        }
-        if self.is_due(Due::Timer(Timer::Negotiate), now) {
-            return Some(Due::Timer(Timer::Negotiate));
-        }
-        if self.is_due(Due::Timer(Timer::Rto), now) {
-            return Some(Due::Timer(Timer::Rto));
-        }
-        if self.is_due(Due::Timer(Timer::Close), now) {
-            return Some(Due::Timer(Timer::Close));
-        }
-        if self.is_due(Due::Timer(Timer::TimeWait), now) {
-            return Some(Due::Timer(Timer::TimeWait));
-        }
-        if self.is_due(Due::Rules, now) {
-            return Some(Due::Rules);
-        }
-        None
+        self.upkeep.first_due(now)
     }
 }

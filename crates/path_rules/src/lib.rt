@@ -2,9 +2,9 @@
 //! Ratio, what a slow reader leaves of the window, limits of answers, and when an end is given up (RFC 4340; RFC 4341;
 //! RFC 6298; where these leave it open, own).
 //!
-//! All are functions of plain numbers, which take no memory and know no clock. Times are in milliseconds since any
-//! moment. A time that lies before an earlier one counts as the earlier one. The owner of an end calls them
-//! (dccp_uses).
+//! All are functions of plain numbers, which take no memory and know no clock; [`Moment`] is a trait of what is due at a
+//! time. Times are in milliseconds since any moment. A time that lies before an earlier one counts as the earlier one.
+//! The owner of an end calls them (dccp_uses).
 #![tactic(auto)]
 
 mod ack_ratio;
@@ -12,6 +12,7 @@ mod allowance;
 mod giving_up;
 mod laws;
 mod limits;
+mod moment;
 mod round_trip;
 mod waits;
 
@@ -27,6 +28,7 @@ pub use crate::laws::{
 pub use crate::limits::{
     Bucket, Limit, TokenGrant, far_syncs, is_near_greatest, near_syncs, resets_to_strangers,
 };
+pub use crate::moment::Moment;
 pub use crate::round_trip::{RoundTrip, longest_timeout, timeout, with_sample};
 pub use crate::waits::{
     Wait, ack_wait, close_wait, negotiate_wait, probes_first, probing_wait, request_wait, rto_wait,

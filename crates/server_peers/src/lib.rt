@@ -33,7 +33,7 @@ pub use crate::life::{Life, Signs, lives_on, rank_of, signs_answered, signs_hear
 pub use crate::naming::{stand_in, stand_ins_are_read_as_their_peers};
 pub use crate::queue::Ticket;
 pub use crate::refusal::{refuse, refuse_stranger};
-pub use crate::register::{Moment, Register, is_peer};
+pub use crate::register::{Register, is_peer};
 pub use crate::rules::{
     Rules, answers_to_strangers, first_given_up, is_crowd, least_left, makes_way,
 };

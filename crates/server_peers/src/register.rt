@@ -8,22 +8,12 @@ ghost use Rattle.server_peers.specs.Queues.{moment_if};
 use crate::queue::{Ticket, count_in, first_in, is_one_moment, requeue};
 use dccp_endpoint::NoMemory;
 use dccp_listener::Peer;
+use path_rules::Moment;
 use std::alloc::Global;
 use std::cmp::Ordering;
 use std::collections::BTreeMap;
 use std::marker::Model;
 use std::ops::Bound;
-
-/// Something that is kept of a peer. It is due at a moment, which is a class and a time, or at none.
-pub trait Moment: Copy {
-    ghost use Rattle.std.specs.Prelude.{◌≡◌, ℕ, Option};
-
-    ghost moment_of: { Self → Option (ℕ × ℕ) };
-
-    /// The class, and the time in milliseconds.
-    fn moment(&self) -> Option<(u8, u64)>
-        ensures { result ≡ moment_of self.now };
-}
 
 /// What is kept of each peer that has a flow. Contracts see it as a list, in the order of peers.
 #[derive(Drop)]

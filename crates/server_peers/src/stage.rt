@@ -3,8 +3,8 @@ ghost use Rattle.std.specs.Prelude.{◌≡◌};
 ghost use Rattle.server_peers.specs.Rules.{class_of, life_moment, since_in};
 
 use crate::life::Life;
-use crate::register::Moment;
 use dccp_endpoint::Phase;
+use path_rules::Moment;
 
 /// The stage of a flow, as far as a server's rules use it (own).
 #[derive(Clone, Copy)]

@@ -16,9 +16,11 @@ use Rattle.dccp_uses.specs.Alarms.{ack_hurried_by, alarm_after, alarm_of, arrang
 use Rattle.dccp_uses.specs.Path.{path_begins, usual_pace}
 use Rattle.dccp_uses.specs.Session.{has_closed, is_delivery, is_listening, news_of}
 use Rattle.dccp_uses.specs.Sessions.{news_if, news_kept}
-use Rattle.dccp_uses.specs.Timed.{TimedState, acks_now, every_due, first_due_of, first_wait_left, is_taken, refusal_named}
+use Rattle.dccp_uses.specs.Timed.{TimedState, first_wait_left, refusal_named}
+use Rattle.dccp_uses.specs.Upkeeps.{acks_now, every_due, first_due, is_taken}
 use Rattle.dccp_uses.specs.declared.alarms.Alarm.{Alarm}
 use Rattle.dccp_uses.specs.declared.alarms.Alarms.{Alarms}
+use Rattle.dccp_uses.specs.declared.upkeep.Upkeep.{Upkeep}
 use Rattle.dccp_uses.specs.declared.news.News.TheVariants as news
 use Rattle.dccp_uses.specs.declared.reader.SendRefusal.TheVariants as refusals
 use Rattle.dccp_uses.specs.declared.timed_end.Due.TheVariants as due
@@ -156,20 +158,23 @@ unfolding until_first
 which_timer_is_first = (refl, refl, refl, refl, refl, refl, refl, refl, refl, refl, refl)
 
 -- an end whose timers all run, and whose rules wait until 300
-abbrev timed : End Both → TimedState Both
-timed end = record { end = end; alarms = running; path = record (path_begins usual_pace) { rules = alarm 0 300 } }
+abbrev kept : Upkeep
+kept = record { alarms = running; path = record (path_begins usual_pace) { rules = alarm 0 300 } }
+
+abbrev timed : End Both → Upkeep → TimedState Both
+timed end u = record { end = end; upkeep = u }
 
 -- The timers come before the rules, and request before all others.
 what_is_due_first : (end : End Both) →
-    (first_due_of (timed end) 10 every_due ≡ None) × (first_due_of (timed end) 300 every_due ≡ Some (due.Timer timers.Request))
-    × (first_due_of (record (timed end) { alarms = record running { request = None } }) 300 every_due ≡ Some (due.Timer timers.Ack))
-    × (first_due_of (record (timed end) { alarms = record no_alarms { negotiate = alarm 3 30; rto = alarm 4 40 } }) 300 every_due ≡ Some (due.Timer timers.Negotiate))
-    × (first_due_of (record (timed end) { alarms = record no_alarms { rto = alarm 4 40; close = alarm 5 50 } }) 300 every_due ≡ Some (due.Timer timers.Rto))
-    × (first_due_of (record (timed end) { alarms = record no_alarms { close = alarm 5 50; time_wait = alarm 6 60 } }) 300 every_due ≡ Some (due.Timer timers.Close))
-    × (first_due_of (record (timed end) { alarms = record no_alarms { time_wait = alarm 6 60 } }) 300 every_due ≡ Some (due.Timer timers.TimeWait))
-    × (first_due_of (record (timed end) { alarms = no_alarms }) 300 every_due ≡ Some due.Rules)
-    × (first_due_of (record (timed end) { alarms = no_alarms }) 299 every_due ≡ None)
-    × (first_wait_left (timed end) 8 ≡ Some 3) × (first_wait_left (record (timed end) { alarms = no_alarms }) 8 ≡ Some 292)
+    (first_due kept 10 every_due ≡ None) × (first_due kept 300 every_due ≡ Some (due.Timer timers.Request))
+    × (first_due (record kept { alarms = record running { request = None } }) 300 every_due ≡ Some (due.Timer timers.Ack))
+    × (first_due (record kept { alarms = record no_alarms { negotiate = alarm 3 30; rto = alarm 4 40 } }) 300 every_due ≡ Some (due.Timer timers.Negotiate))
+    × (first_due (record kept { alarms = record no_alarms { rto = alarm 4 40; close = alarm 5 50 } }) 300 every_due ≡ Some (due.Timer timers.Rto))
+    × (first_due (record kept { alarms = record no_alarms { close = alarm 5 50; time_wait = alarm 6 60 } }) 300 every_due ≡ Some (due.Timer timers.Close))
+    × (first_due (record kept { alarms = record no_alarms { time_wait = alarm 6 60 } }) 300 every_due ≡ Some (due.Timer timers.TimeWait))
+    × (first_due (record kept { alarms = no_alarms }) 300 every_due ≡ Some due.Rules)
+    × (first_due (record kept { alarms = no_alarms }) 299 every_due ≡ None)
+    × (first_wait_left (timed end kept) 8 ≡ Some 3) × (first_wait_left (timed end (record kept { alarms = no_alarms })) 8 ≡ Some 292)
 unfolding until_first
 what_is_due_first end = (refl, refl, refl, refl, refl, refl, refl, refl, refl, refl, refl)
 

@@ -21,7 +21,7 @@ use Rattle.dccp_uses.specs.Alarms.{until_first}
 use Rattle.dccp_uses.specs.Path.{classic_pace, path_begins, usual_pace, widened}
 use Rattle.dccp_uses.specs.Sessions.{rings_due}
 use Rattle.dccp_uses.specs.Syncs.{admitted}
-use Rattle.dccp_uses.specs.Timed.{TimedState, timed_begins, timed_opens, timed_takes}
+use Rattle.dccp_uses.specs.Timed.{TimedState, timed_begins, timed_opens, timed_takes, with_path}
 use Rattle.dccp_uses.specs.declared.pace.Pace.{Pace}
 use Rattle.dccp_uses.specs.declared.path.Path.{Path}
 use Rattle.dccp_uses.specs.declared.timed_end.Due.TheVariants as due
@@ -149,11 +149,11 @@ the_silent_are_given_up :
     × (told_frame 185000 asking ≡ None)
     × (told_frame 60999 heard_once ≡ None)
     × (told_frame 61000 heard_once ≡ sent "13899c400800fa3007000000000007d200000000000003ea2005050002000000")
-    × (asked.alarms.negotiate ≡ Some (record { since = 61000; wait = 1000 }))
+    × (asked.upkeep.alarms.negotiate ≡ Some (record { since = 61000; wait = 1000 }))
     × (bytes_sent (rings_due kinds_control 62000 asked (due.Timer timers.Negotiate)).frame ≡ sent "13899c400800fa2f07000000000007d300000000000003ea2005050002000000")
-    × (asked.path.silence ≡ Some (record { since = 61000; wait = 10000 }))
-    × ((told 71000 asked).path.silence ≡ Some (record { since = 71000; wait = 10000 }))
-    × ((told 71000 asked).alarms.negotiate ≡ Some (record { since = 71000; wait = 1000 }))
+    × (asked.upkeep.path.silence ≡ Some (record { since = 61000; wait = 10000 }))
+    × ((told 71000 asked).upkeep.path.silence ≡ Some (record { since = 71000; wait = 10000 }))
+    × ((told 71000 asked).upkeep.alarms.negotiate ≡ Some (record { since = 71000; wait = 1000 }))
     × ((told 180999 heard_once).end.state.phase ≡ phase.Open)
     × ((told 181000 heard_once).end.state.phase ≡ phase.Closed)
     × (told_frame 181000 heard_once ≡ sent "13899c400700183a0f000000000007d200000000000003ea02000000")
@@ -169,11 +169,11 @@ a_wide_window_is_offered = refl
 
 -- Two rules are due at one time: one goes, and the other a millisecond later.
 abbrev both_due : TimedState Both
-both_due = record heard_once { path = record heard_once.path { ratio = Some (record { since = 1000; wait = 0 }); aim = 2 } }
+both_due = with_path heard_once (record heard_once.upkeep.path { ratio = Some (record { since = 1000; wait = 0 }); aim = 2 })
 
 one_rule_acts_in_a_millisecond :
-    ((told 61000 both_due).path.rules ≡ Some (record { since = 61000; wait = 1 }))
-    × ((told 61000 both_due).path.silence ≡ Some (record { since = 61000; wait = 10000 }))
-    × ((told 61001 (told 61000 both_due)).path.ratio ≡ None) × ((told 61001 (told 61000 both_due)).path.asked ≡ Some 61001)
+    ((told 61000 both_due).upkeep.path.rules ≡ Some (record { since = 61000; wait = 1 }))
+    × ((told 61000 both_due).upkeep.path.silence ≡ Some (record { since = 61000; wait = 10000 }))
+    × ((told 61001 (told 61000 both_due)).upkeep.path.ratio ≡ None) × ((told 61001 (told 61000 both_due)).upkeep.path.asked ≡ Some 61001)
 unfolding receives opens closes prefers fires sends_payload sends_early framed until_first
 one_rule_acts_in_a_millisecond = (refl, refl, refl, refl)

@@ -13,7 +13,7 @@ use Rattle.dccp_uses.specs.Notice.{no_drops, no_notice}
 use Rattle.dccp_uses.specs.Path.{classic_pace, is_handshake, is_open_phase, is_probing, path_begins, patience, usual_pace}
 use Rattle.dccp_uses.specs.Reader.{asks_slower, reader_begins}
 use Rattle.dccp_uses.specs.Syncs.{admitted_by, admitted_within, has_windows, is_sync_verdict, notice_judged, noticed_if}
-use Rattle.dccp_uses.specs.Timed.{ruled_condition}
+use Rattle.dccp_uses.specs.Upkeeps.{ruled_condition}
 use Rattle.dccp_uses.specs.declared.notice.Notice.{Notice}
 use Rattle.dccp_uses.specs.declared.path.Path.{Path}
 use Rattle.dccp_uses.specs.declared.sight.Sight.{Sight}

@@ -16,7 +16,8 @@ use Rattle.dccp_uses.specs.Path.{classic_pace}
 use Rattle.dccp_uses.specs.Session.{every_timer}
 use Rattle.dccp_uses.specs.Holding.{HoldingState, HoldingStep, without_inbox}
 use Rattle.dccp_uses.specs.Sessions.{HoldingSteps, holding_hears, rings_each_due, session_accepted, session_hears}
-use Rattle.dccp_uses.specs.Timed.{TimedState, TimedStep, every_due, timed_begins, timed_closes, timed_opens, timed_sends}
+use Rattle.dccp_uses.specs.Timed.{TimedState, TimedStep, timed_begins, timed_closes, timed_opens, timed_sends}
+use Rattle.dccp_uses.specs.Upkeeps.{every_due}
 use Rattle.dccp_uses.specs.declared.reader.SendRefusal.{SendRefusal}
 use Rattle.dccp_uses.specs.declared.alarms.Alarm.{Alarm}
 use Rattle.dccp_uses.specs.declared.alarms.Alarms.{Alarms}
@@ -115,7 +116,7 @@ client_ticks_if false control p = p
 client_ticks_if true control p = client_rang p (rings_each_due control p.now (without_inbox p.client) every_due)
 
 abbrev pub client_ticks : {C : Type 0} → Control C → Pair C → Pair C
-client_ticks control p = client_ticks_if (is_due p.now p.client.alarms) control p
+client_ticks control p = client_ticks_if (is_due p.now p.client.upkeep.alarms) control p
 
 abbrev pub server_rang : {C : Type 0} → Pair C → HoldingSteps Both → Pair C
 server_rang p steps = record p { server = Some steps.holding.timed; to_client = onto_all p.to_client steps.frames }
@@ -126,7 +127,7 @@ server_ticks_if true p s = server_rang p (rings_each_due kinds_control p.now (wi
 
 abbrev pub server_ticks_in : {C : Type 0} → Pair C → Option (TimedState Both) → Pair C
 server_ticks_in p None = p
-server_ticks_in p (Some s) = server_ticks_if (is_due p.now s.alarms) p s
+server_ticks_in p (Some s) = server_ticks_if (is_due p.now s.upkeep.alarms) p s
 
 abbrev pub server_ticks : {C : Type 0} → Pair C → Pair C
 server_ticks p = server_ticks_in p p.server
@@ -162,7 +163,7 @@ wait_in (Some alarm) = Some alarm.wait
 
 abbrev pub wait_of : Option (TimedState Both) → Timer → Option ℕ
 wait_of None timer = None
-wait_of (Some s) timer = wait_in (alarm_of s.alarms timer)
+wait_of (Some s) timer = wait_in (alarm_of s.upkeep.alarms timer)
 
 -- all frames to the server are lost
 abbrev pub loses : {C : Type 0} → Pair C → Pair C
@@ -239,10 +240,10 @@ told control p (Pass time ∷ rest) = told control (passes control p time) rest
 told control p (Wait time ∷ rest) = told control (waits control p time) rest
 told control p (AtPhases ∷ rest) = PhasesAre p.client.end.state.phase (serving p.server) ∷ told control p rest
 told control p (AtGot ∷ rest) = Got p.got ∷ told control p rest
-told control p (AtFirst ∷ rest) = FirstIs (length p.to_server) (until_first p.client.alarms p.now) ∷ told control p rest
-told control p (AtLeft ∷ rest) = LeftIs (until_first p.client.alarms p.now) ∷ told control p rest
+told control p (AtFirst ∷ rest) = FirstIs (length p.to_server) (until_first p.client.upkeep.alarms p.now) ∷ told control p rest
+told control p (AtLeft ∷ rest) = LeftIs (until_first p.client.upkeep.alarms p.now) ∷ told control p rest
 told control p (AtCodes ∷ rest) = CodesAre p.client_ended p.server_ended ∷ told control p rest
 told control p (AtRoom ∷ rest) = RoomIs (room control p) ∷ told control p rest
 told control p (AtServer ∷ rest) = IsServed (is_some p.server) ∷ told control p rest
-told control p (AtClientsTimer timer ∷ rest) = WaitIs (wait_in (alarm_of p.client.alarms timer)) ∷ told control p rest
+told control p (AtClientsTimer timer ∷ rest) = WaitIs (wait_in (alarm_of p.client.upkeep.alarms timer)) ∷ told control p rest
 told control p (AtServersTimer timer ∷ rest) = WaitIs (wait_of p.server timer) ∷ told control p rest

@@ -10,7 +10,8 @@ use Rattle.dccp_server.specs.FlowDrops.{flow_recorded}
 use Rattle.dccp_server.specs.FlowInboxes.{lies_within}
 use Rattle.server_peers.specs.Rules.{answers_to_strangers, class_of, is_none_left, left_since, limit_in, or_else, usual_rules}
 use Rattle.dccp_server.specs.Serving.{is_refusal, wait_until}
-use Rattle.dccp_server.specs.Upkeeps.{alarm_end, earlier, on_clock, tells_data, tells_taken}
+use Rattle.dccp_uses.specs.Upkeeps.{alarm_end, earlier, on_clock}
+use Rattle.dccp_server.specs.Upkeeps.{tells_data, tells_taken}
 use Rattle.dccp_server.specs.declared.flow_drops.FlowDrop.{FlowDrop}
 use Rattle.server_peers.specs.declared.queue.Ticket.{Ticket}
 use Rattle.server_peers.specs.declared.stage.Stage.TheVariants as stage

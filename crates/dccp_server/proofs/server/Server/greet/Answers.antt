@@ -1,6 +1,6 @@
 use Rattle.std.proofs.Common.{◌≡◌, Some, true, rules, ap, ◌∙◌}
 use Rattle.dccp_listener.specs.Greeting.{greets}
-use Rattle.dccp_uses.specs.Timed.{is_taken}
+use Rattle.dccp_uses.specs.Upkeeps.{is_taken}
 use Rattle.dccp_server.specs.Meeting.{greeting_frame, request_at}
 use Rattle.dccp_server.specs.Rooms.{RuledRoom}
 use Rattle.dccp_server.proofs.Reopening.{greeted}

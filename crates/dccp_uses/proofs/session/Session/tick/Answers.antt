@@ -1,7 +1,7 @@
 use Rattle.std.proofs.Common.{sym, subst}
 use Rattle.dccp_uses.specs.Sessions.{NoneIsDue}
 use Rattle.dccp_uses.specs.Holding.{HoldingState}
-use Rattle.dccp_uses.specs.Timed.{every_due}
+use Rattle.dccp_uses.specs.Upkeeps.{every_due}
 use Rattle.dccp_uses.proofs.Dues.{RingsEachDue, nothing_due, rung_all}
 use Rattle.dccp_uses.proofs.session.Session.tick.Given as given
 use Rattle.dccp_uses.proofs.session.Session.tick.Goals as goal

@@ -7,7 +7,7 @@ pub returns-clause-step : goal.returns-clause-step
 returns-clause-step g c =
     let control = g.C.Congestion.control in
     let now = c.args.now in
-    let s : TimedState _ = record { end = c.self.inside.end; alarms = c.self.inside.alarms; path = c.self.inside.path } in
+    let s : TimedState _ = record { end = c.self.inside.end; upkeep = c.self.inside.upkeep } in
     let heard : c.admit-heard.result ≡ true = search rules in
     subst
     (λ (x : TimedState _). record { timed = c.hear.new.self; frame = c.hear.new.out; answer = Some c.hear.result } ≡ timed_takes control now x c.args.datagram.now)

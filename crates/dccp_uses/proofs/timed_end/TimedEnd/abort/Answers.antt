@@ -1,0 +1,13 @@
+use Rattle.dccp_endpoint.specs.Calling.{aborts}
+use Rattle.dccp_endpoint.specs.Controlled.{with_control}
+use Rattle.dccp_uses.specs.Timed.{TimedState}
+use Rattle.dccp_uses.specs.Upkeeps.{kept_called}
+use Rattle.dccp_uses.proofs.Told.{called_as}
+use Rattle.dccp_uses.proofs.timed_end.TimedEnd.abort.Goals as goal
+
+pub returns-clause-step : goal.returns-clause-step
+returns-clause-step g c =
+    let control = g.C.Congestion.control in
+    called_as (record { end = c.self.inside.end; upkeep = c.self.inside.upkeep }) c.args.self.now
+    (λ (s : TimedState _). with_control control s.end.congestion (aborts s.end.state)) (kept_called control c.args.now)
+    c.abort.new.self c.abort.new.out c.in_ok-abort.field-0 c.go_on.new.self c.self.view_is c.in_ok-abort.ensures.step c.go_on.ensures
