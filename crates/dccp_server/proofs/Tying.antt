@@ -1,6 +1,6 @@
 -- The peers of which something is kept are those that have a flow, and who has a flow has a place for it.
 use Rattle.dccp_states.specs.Phases.{is_closed}
-use Rattle.std.proofs.Common.{◌≡◌, refl, sym, ap, ◌∙◌, subst, ℕ, Bool, true, false, cond, ◌||◌, if◌then◌else◌, List, [], ◌∷◌, Option, Some, None, is_some, IsSome, inl, inr, Result, Ok, Err, OnOk, OnErr, Ordering, Less, Equal, Greater, is_eq}
+use Rattle.std.proofs.Common.{◌≡◌, refl, sym, ap, ◌∙◌, subst, ℕ, Bool, true, false, cond, ◌||◌, if◌then◌else◌, List, [], ◌∷◌, Option, Some, None, is_some, IsSome, inl, inr, Result, Ok, Err, OnErr, Ordering, Less, Equal, Greater, is_eq}
 use Rattle.std.proofs.lemmas.Bool.{false≢true}
 use Rattle.std.proofs.lemmas.Map.{keys-set_value, lookup-remove_entry, lookup-set_value}
 use Rattle.std.proofs.lemmas.Map.Keys.{IsDistinct-from_sorted}
@@ -19,7 +19,7 @@ use Rattle.dccp_listener.proofs.InOrder.{found_insert}
 use Rattle.dccp_listener.proofs.OnePeer.{peers_alike}
 use Rattle.dccp_listener.specs.Calls.{Arrived}
 use Rattle.dccp_listener.specs.Chain.{Arrives, Calls, Deed, FlowCall, flow_step, fresh_end}
-use Rattle.dccp_listener.specs.Listens.{AreInOrder, fresh_met, is_table_full, listens_by}
+use Rattle.dccp_listener.specs.Listens.{AreInOrder, fresh_met, is_table_full, listening_after, listens_by}
 use Rattle.dccp_listener.specs.Peers.{FlowEnd, Flows, ListenerState, end_of_peer, is_peer, peer_cmp}
 use Rattle.dccp_listener.specs.declared.calls.Heard.{Heard}
 use Rattle.dccp_listener.specs.declared.config.ListenConfig.{ListenConfig}
@@ -223,7 +223,7 @@ strangers config pace all peer iss bytes wants =
     stranger-by (served_through (serving_begins config pace) all) peer iss bytes (upkeeps_tied config pace all) wants
 
 -- memory is wanting for no call
-pub calls_find_places : (s : ServedListener) (peer : Peer) → IsTied s → IsSome (end_of_peer s.listening.flows peer) → lookup (is_peer peer) s.upkeeps ≡ None → ⊥
+calls_find_places : (s : ServedListener) (peer : Peer) → IsTied s → IsSome (end_of_peer s.listening.flows peer) → lookup (is_peer peer) s.upkeeps ≡ None → ⊥
 calls_find_places s peer tied there none = false≢true (sym (ap is_some (no_flow s peer tied.same_peers none)) ∙ there)
 
 pub calls_want_none : CallsWantNoMemory
@@ -250,6 +250,25 @@ pub place_there_if : {V : Type 0} (found : Option FlowEnd) (e : FlowEnd) (kept :
     → IsSome (lookup (is_peer peer) kept)
 place_there_if {V} found e kept peer is has = subst (λ (x : Option FlowEnd). HasPlaceIf x kept peer) is has
 
+-- a call makes no end, so whoever has one after it has a place
+call-place : (l : ListenerState) (kept : Upkeeps) (peer : Peer) (found : Option FlowEnd) (call : FlowCall) → end_of_peer l.flows peer ≡ found
+    → HasPlaceIf found kept peer → HasPlaceIf (end_of_peer (listening_after l peer (Calls call)).flows peer) kept peer
+call-place l kept peer None call is has =
+    subst (λ (x : Option FlowEnd). HasPlaceIf (end_of_peer (listens_by l peer x (Calls call)).flows peer) kept peer) (sym is)
+    (subst (λ (x : Option FlowEnd). HasPlaceIf x kept peer) (sym is) tt)
+call-place l kept peer (Some e) call is has = has_place (end_of_peer (listening_after l peer (Calls call)).flows peer) kept peer has
+
+place-by-call : (s : ServedListener) (peer : Peer) (call : Option FlowCall) → IsTied s
+    → HasPlaceIf (end_of_peer (listening_if s.listening peer call).flows peer) s.upkeeps peer
+place-by-call s peer None tied = place_if s.listening.flows s.upkeeps peer tied.same_peers
+place-by-call s peer (Some call) tied =
+    call-place s.listening s.upkeeps peer (end_of_peer s.listening.flows peer) call refl (place_if s.listening.flows s.upkeeps peer tied.same_peers)
+
+pub place_after : (s : ServedListener) (after : ListenerState) (peer : Peer) (call : Option FlowCall) → IsTied s → after ≡ listening_if s.listening peer call
+    → HasPlaceIf (end_of_peer after.flows peer) s.upkeeps peer
+place_after s after peer call tied is =
+    subst (λ (l : ListenerState). HasPlaceIf (end_of_peer l.flows peer) s.upkeeps peer) (sym is) (place-by-call s peer call tied)
+
 -- memory for a datagram is wanting where it would open a flow
 pub stranger_from_arrived : (before after : ListenerState) (peer : Peer) (iss : ℕ) (bytes : List ℕ) (frame : Option Outgoing) (result : Result Heard NoMemory)
     → Arrived before after peer iss bytes frame result → OnErr result (end_of_peer before.flows peer ≡ None)
@@ -262,9 +281,3 @@ pub tied_begins : (config : ListenConfig) (pace : Pace) (l : ListenerState) (kep
 tied_begins config pace l kept begun none =
     subst (λ (x : ListenerState). IsTied (served x pace kept)) (sym begun)
     (subst (λ (t : Upkeeps). IsTied (served (record { config = config; flows = [] }) pace t)) (sym none) (begun_tied config pace))
-
--- so it stays where memory was wanting and nothing has changed
-pub tied_if : {A B : Type 0} (now : ℕ) (s t : ServedListener) (peer : Peer) (doing : PeerDeed) (result : Result A B) → OnOk result (t ≡ served_by now s peer doing)
-    → OnErr result (t ≡ s) → IsTied s → IsTied t
-tied_if now s t peer doing (Ok it) does same tied = tied_then now s t peer doing does tied
-tied_if now s t peer doing (Err fault) does same tied = subst IsTied (sym same) tied

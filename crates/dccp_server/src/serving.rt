@@ -9,19 +9,19 @@ ghost use Rattle.dccp_listener.specs.Peers.{end_of_peer, is_peer, peer_cmp};
 ghost use Rattle.dccp_listener.specs.Runs.{Stepped, told_of};
 ghost use Rattle.dccp_uses.specs.Syncs.{admitted};
 ghost use Rattle.server_peers.specs.Places.{HasPlaceIf, IsPlaced};
-ghost use Rattle.dccp_server.specs.Serving.{IsDone, WantsMemory, deed_served, call_due, due_of_flow, upkeep_counted, first_due_flow, rule_followed, frame_if, is_admitted, least_wait, listening_if, served, served_counted, soonest, upkeep_at, upkeeps_then};
+ghost use Rattle.dccp_server.specs.Serving.{IsDone, due_of_flow, frame_if, listening_if, soonest, upkeep_at, upkeep_counted, upkeeps_then};
 ghost use Rattle.dccp_server.specs.Upkeeps.{call_for_rule, ratio_held, rule_call, sight_if};
 ghost use Rattle.dccp_uses.specs.Upkeeps.{upkeep_begins};
 
-use crate::happening::{FlowHappening, arrived_so, called_so};
+use crate::happening::FlowHappening;
 use ccid_two::Kinds;
 use dccp_endpoint::{Endpoint, Feature, NoMemory, Outbox, Place, Seen, Seq48, Timer, UserCall};
 use dccp_listener::{Heard, Listener, NoFlow, Peer};
-use dccp_uses::{Due, Pace, Reader, Rule, Sight, Upkeep, admit, due_rule};
+use dccp_uses::{Due, Pace, Rule, Sight, Upkeep, admit};
 use server_peers::{Register, Ticket};
 
-// What the rules see of a peer's end, if it has one.
-fn sight_at(listener: &Listener, peer: Peer) -> Option<Sight>
+/// What the rules see of a peer's end, if it has one.
+pub(crate) fn sight_at(listener: &Listener, peer: Peer) -> Option<Sight>
     ensures { result ≡ sight_if (end_of_peer listener.now.flows peer) }
 {
     match listener.flow(peer) {
@@ -30,13 +30,7 @@ fn sight_at(listener: &Listener, peer: Peer) -> Option<Sight>
     }
 }
 
-fn has_flow(listener: &Listener, peer: Peer) -> bool
-    ensures { result ≡ is_some (end_of_peer listener.now.flows peer) }
-{
-    listener.flow(peer).is_some()
-}
-
-fn is_silent(out: &Outbox) -> bool
+pub(crate) fn is_silent(out: &Outbox) -> bool
     ensures { result ≡ not (is_some out.now) }
 {
     out.frame().is_none()
@@ -52,8 +46,12 @@ pub(crate) fn upkeep_at(upkeeps: &Register<Upkeep>, pace: Pace, peer: Peer) -> U
     }
 }
 
-// The peer has a place for what is kept of it from now on. Returns whether it had one before.
-fn place(upkeeps: &mut Register<Upkeep>, pace: Pace, peer: Peer) -> Result<bool, NoMemory>
+/// The peer has a place for what is kept of it from now on. Returns whether it had one before.
+pub(crate) fn place(
+    upkeeps: &mut Register<Upkeep>,
+    pace: Pace,
+    peer: Peer,
+) -> Result<bool, NoMemory>
     ensures placed { IfOk result (λ had. IsPlaced (upkeep_begins pace) had upkeeps.old upkeeps.new peer) }
     ensures there { OnOk result (IsSome (lookup (is_peer peer) upkeeps.new)) }
     ensures unchanged { OnErr result (upkeeps.new ≡ upkeeps.old) }
@@ -65,18 +63,8 @@ fn place(upkeeps: &mut Register<Upkeep>, pace: Pace, peer: Peer) -> Result<bool,
     upkeeps.place_for(peer, Upkeep::begins(pace))
 }
 
-/// What is known of the application that reads a peer's data.
-pub(crate) fn reader_at(upkeeps: &Register<Upkeep>, pace: Pace, peer: Peer) -> Reader
-    ensures { result ≡ (upkeep_at pace upkeeps.now peer).path.reader }
-{
-    match upkeeps.get(peer) {
-        Some(upkeep) => upkeep.path.reader,
-        None => Upkeep::begins(pace).path.reader,
-    }
-}
-
-// What is kept of the peer goes on from this with its end, and ends with it.
-fn arrange(
+/// What is kept of the peer goes on from this with its end, and ends with it.
+pub(crate) fn arrange(
     listener: &Listener,
     upkeeps: &mut Register<Upkeep>,
     peer: Peer,
@@ -100,8 +88,8 @@ fn arrange(
     }
 }
 
-// The listener hears a datagram.
-fn hear(
+/// The listener hears a datagram.
+pub(crate) fn hear(
     listener: &mut Listener,
     peer: Peer,
     iss: Seq48,
@@ -116,8 +104,8 @@ fn hear(
     listener.arrive(peer, iss, bytes, out)
 }
 
-// The listener takes a call of a peer's end.
-fn ask(
+/// The listener takes a call of a peer's end.
+pub(crate) fn ask(
     listener: &mut Listener,
     peer: Peer,
     call: UserCall<'_>,
@@ -128,15 +116,15 @@ fn ask(
     listener.ask(peer, call, out)
 }
 
-// The ticket of the flow at which something is due first.
-fn soonest(upkeeps: &Register<Upkeep>) -> Option<Ticket>
+/// The ticket of the flow at which something is due first.
+pub(crate) fn soonest(upkeeps: &Register<Upkeep>) -> Option<Ticket>
     ensures { result ≡ soonest upkeeps.now }
 {
     upkeeps.first_in(0)
 }
 
-// The first thing that is due at a peer's flow, by what is kept of it.
-fn due_of_flow(upkeeps: &Register<Upkeep>, peer: Peer, now: u64) -> Option<(Peer, Due)>
+/// The first thing that is due at a peer's flow, by what is kept of it.
+pub(crate) fn due_of_flow(upkeeps: &Register<Upkeep>, peer: Peer, now: u64) -> Option<(Peer, Due)>
     ensures { result ≡ due_of_flow now peer (lookup (is_peer peer) upkeeps.now) }
 {
     match upkeeps.get(peer) {
@@ -148,28 +136,9 @@ fn due_of_flow(upkeeps: &Register<Upkeep>, peer: Peer, now: u64) -> Option<(Peer
     }
 }
 
-/// The flow at which something has been due for longest, and the first thing that is due there.
-pub(crate) fn first_due_flow(upkeeps: &Register<Upkeep>, now: u64) -> Option<(Peer, Due)>
-    ensures { result ≡ first_due_flow now upkeeps.now }
-{
-    match soonest(upkeeps) {
-        Some(ticket) => due_of_flow(upkeeps, ticket.peer, now),
-        None => None,
-    }
-}
-
-/// In how many milliseconds something is due at any flow; 2^64 - 1 if nothing will be.
-pub(crate) fn least_wait(upkeeps: &Register<Upkeep>, now: u64) -> u64
-    ensures { result ≡ least_wait now upkeeps.now }
-{
-    match soonest(upkeeps) {
-        Some(ticket) => ticket.time.saturating_sub(now),
-        None => u64::MAX,
-    }
-}
-
-// Counts a datagram of a flow. Returns whether it is to be heard.
-fn count(
+/// Counts a datagram of a flow, which takes a token if its numbers would have a Sync answer it. Returns whether it is to be
+/// heard.
+pub(crate) fn count(
     end: &Endpoint<Kinds>,
     upkeeps: &mut Register<Upkeep>,
     peer: Peer,
@@ -185,91 +154,6 @@ fn count(
     let heard = admit(end, &mut upkeep.path, bytes, now);
     upkeeps.put(peer, &upkeep);
     heard
-}
-
-/// A datagram of a peer takes a token if its numbers would have a Sync answer it. Something is kept of the peer if it
-/// has a flow. Returns whether the datagram is to be heard.
-pub(crate) fn spend(
-    listener: &Listener,
-    upkeeps: &mut Register<Upkeep>,
-    pace: Pace,
-    peer: Peer,
-    bytes: &[u8],
-    now: u64,
-) -> bool
-    requires { HasPlaceIf (end_of_peer listener.now.flows peer) upkeeps.old peer }
-    ensures counted { served listener.now pace upkeeps.new ≡ served_counted now (served listener.now pace upkeeps.old) peer bytes.now }
-    ensures heard { result ≡ is_admitted now (served listener.now pace upkeeps.old) peer bytes.now }
-{
-    match listener.flow(peer) {
-        Some(end) => count(end, upkeeps, peer, bytes, pace, now),
-        None => true,
-    }
-}
-
-/// A datagram of a peer. NoMemory if the peer has no flow, or no place for what is kept of it, and there is no memory
-/// for that.
-pub(crate) fn arrive(
-    listener: &mut Listener,
-    upkeeps: &mut Register<Upkeep>,
-    pace: Pace,
-    peer: Peer,
-    iss: Seq48,
-    bytes: &[u8],
-    now: u64,
-    out: &mut Outbox,
-) -> Result<Heard, NoMemory>
-    requires { length bytes.now ≤ 2044 }
-    ensures after { OnOk result (served listener.new pace upkeeps.new ≡ deed_served now (served listener.old pace upkeeps.old) peer (Arrives iss bytes.now)) }
-    ensures sent { OnOk result (out.new ≡ (listens listener.old peer (Arrives iss bytes.now)).frame) }
-    ensures told { IfOk result (λ heard. told_of (Ok heard) ≡ (listens listener.old peer (Arrives iss bytes.now)).told) }
-    ensures unchanged { OnErr result (served listener.new pace upkeeps.new ≡ served listener.old pace upkeeps.old) }
-    ensures wanting { OnErr result (WantsMemory (served listener.old pace upkeeps.old) peer (Arrives iss bytes.now)) }
-{
-    let was = sight_at(listener, peer);
-    let upkeep = upkeep_at(upkeeps, pace, peer);
-    let had = place(upkeeps, pace, peer)?;
-    match hear(listener, peer, iss, bytes, out) {
-        Ok(heard) => {
-            let happening = arrived_so(was, &heard, is_silent(out));
-            arrange(listener, upkeeps, peer, &upkeep, &happening, pace, now);
-            Ok(heard)
-        }
-        Err(fault) => {
-            upkeeps.take_back(peer, had);
-            Err(fault)
-        }
-    }
-}
-
-/// A call of a peer's end. NoMemory if the peer has a flow without a place for what is kept of it, and there is no
-/// memory for that.
-pub(crate) fn act(
-    listener: &mut Listener,
-    upkeeps: &mut Register<Upkeep>,
-    pace: Pace,
-    peer: Peer,
-    call: UserCall<'_>,
-    now: u64,
-    out: &mut Outbox,
-) -> Result<Result<Seen, NoFlow>, NoMemory>
-    ensures after { OnOk result (served listener.new pace upkeeps.new ≡ deed_served now (served listener.old pace upkeeps.old) peer (Calls (asked call.entry))) }
-    ensures sent { OnOk result (out.new ≡ (listens listener.old peer (Calls (asked call.entry))).frame) }
-    ensures told { IfOk result (λ answer. Stepped (seen_if answer) ≡ (listens listener.old peer (Calls (asked call.entry))).told) }
-    ensures unchanged { OnErr result (served listener.new pace upkeeps.new ≡ served listener.old pace upkeeps.old) }
-    ensures wanting { OnErr result (WantsMemory (served listener.old pace upkeeps.old) peer (Calls (asked call.entry))) }
-{
-    if !has_flow(listener, peer) {
-        let refused = ask(listener, peer, call, out);
-        upkeeps.remove(peer);
-        return Ok(refused);
-    }
-    let upkeep = upkeep_at(upkeeps, pace, peer);
-    place(upkeeps, pace, peer)?;
-    let answer = ask(listener, peer, call, out);
-    let happening = called_so(call, &answer);
-    arrange(listener, upkeeps, peer, &upkeep, &happening, pace, now);
-    Ok(answer)
 }
 
 // The Ack Ratio is asked for.
@@ -313,8 +197,8 @@ fn held_at(listener: &Listener, peer: Peer) -> Option<u64>
     }
 }
 
-// The peer's end, if it has one, does what a rule says; `aim` is the Ack Ratio that is wanted.
-fn obey_at(listener: &mut Listener, peer: Peer, rule: Rule, aim: u64, out: &mut Outbox)
+/// The peer's end, if it has one, does what a rule says; `aim` is the Ack Ratio that is wanted.
+pub(crate) fn obey_at(listener: &mut Listener, peer: Peer, rule: Rule, aim: u64, out: &mut Outbox)
     ensures after { listener.new ≡ listening_if listener.old peer (call_for_rule rule aim (end_of_peer listener.old.flows peer)) }
     ensures sent { out.new ≡ frame_if listener.old peer (call_for_rule rule aim (end_of_peer listener.old.flows peer)) }
 {
@@ -322,32 +206,4 @@ fn obey_at(listener: &mut Listener, peer: Peer, rule: Rule, aim: u64, out: &mut 
         Some(held) => obey(listener, peer, rule, held, aim, out),
         None => out.clear(),
     }
-}
-
-/// The first rule of a peer's path that is due makes its end do something. NoMemory if the peer has a flow without a
-/// place for what is kept of it, and there is no memory for that.
-pub(crate) fn follow(
-    listener: &mut Listener,
-    upkeeps: &mut Register<Upkeep>,
-    pace: Pace,
-    peer: Peer,
-    now: u64,
-    out: &mut Outbox,
-) -> Result<(), NoMemory>
-    ensures after { OnOk result (served listener.new pace upkeeps.new ≡ rule_followed now (served listener.old pace upkeeps.old) peer) }
-    ensures sent { OnOk result (out.new ≡ frame_if listener.old peer (call_due now (served listener.old pace upkeeps.old) peer)) }
-    ensures wanting { OnErr result (IsSome (end_of_peer listener.old.flows peer) × (lookup (is_peer peer) upkeeps.old ≡ None)) }
-{
-    if !has_flow(listener, peer) {
-        out.clear();
-        upkeeps.remove(peer);
-        return Ok(());
-    }
-    let upkeep = upkeep_at(upkeeps, pace, peer);
-    let rule = due_rule(&upkeep.path, now);
-    place(upkeeps, pace, peer)?;
-    obey_at(listener, peer, rule, upkeep.path.aim, out);
-    let happening = FlowHappening::Ruled(rule);
-    arrange(listener, upkeeps, peer, &upkeep, &happening, pace, now);
-    Ok(())
 }

@@ -1,13 +1,14 @@
 //! A listener with the timers of its flows and the rules of their paths.
 ghost use Rattle.std.specs.Prelude.{◌≡◌};
 
+use crate::happening::{FlowHappening, arrived_so, called_so};
 use crate::serving::{
-    act, arrive, first_due_flow, follow, least_wait, reader_at, spend, upkeep_at,
+    arrange, ask, count, due_of_flow, hear, is_silent, obey_at, place, sight_at, soonest, upkeep_at,
 };
 use ccid_two::Kinds;
 use dccp_endpoint::{Endpoint, NoMemory, Outbox, Outcome, Seen, Seq48, UserCall};
 use dccp_listener::{Heard, ListenConfig, Listener, NoFlow, Peer};
-use dccp_uses::{Due, Pace, Reader, Upkeep, admit};
+use dccp_uses::{Due, Pace, Reader, Upkeep, admit, due_rule};
 use server_peers::Register;
 use std::alloc::Global;
 use std::marker::Model;
@@ -65,14 +66,10 @@ impl TimedListener {
         ensures counted { self.new ≡ served_counted now self.old peer bytes.now }
         ensures heard { result ≡ is_admitted now self.old peer bytes.now }
     {
-        spend(
-            &self.listener,
-            &mut self.upkeeps,
-            self.pace,
-            peer,
-            bytes,
-            now,
-        )
+        match self.listener.flow(peer) {
+            Some(end) => count(end, &mut self.upkeeps, peer, bytes, self.pace, now),
+            None => true,
+        }
     }
 
     /// What `admits` would return; nothing is counted.
@@ -105,16 +102,28 @@ impl TimedListener {
         ensures unchanged { OnErr result (self.new ≡ self.old) }
         ensures wanting { OnErr result (WantsMemory self.old peer (Arrives iss bytes.now)) }
     {
-        arrive(
-            &mut self.listener,
-            &mut self.upkeeps,
-            self.pace,
-            peer,
-            iss,
-            bytes,
-            now,
-            out,
-        )
+        let was = sight_at(&self.listener, peer);
+        let upkeep = upkeep_at(&self.upkeeps, self.pace, peer);
+        let had = place(&mut self.upkeeps, self.pace, peer)?;
+        match hear(&mut self.listener, peer, iss, bytes, out) {
+            Ok(heard) => {
+                let happening = arrived_so(was, &heard, is_silent(out));
+                arrange(
+                    &self.listener,
+                    &mut self.upkeeps,
+                    peer,
+                    &upkeep,
+                    &happening,
+                    self.pace,
+                    now,
+                );
+                Ok(heard)
+            }
+            Err(fault) => {
+                self.upkeeps.take_back(peer, had);
+                Err(fault)
+            }
+        }
     }
 
     /// The owner calls a peer's end: `Listener::ask`, and what is kept of its flow goes on. NoFlow comes exactly if the
@@ -130,19 +139,19 @@ impl TimedListener {
         ensures sent { out.new ≡ (listens self.old.listening peer (Calls (asked call.entry))).frame }
         ensures told { Stepped (seen_if result) ≡ (listens self.old.listening peer (Calls (asked call.entry))).told }
     {
-        match act(
-            &mut self.listener,
+        let upkeep = upkeep_at(&self.upkeeps, self.pace, peer);
+        let answer = ask(&mut self.listener, peer, call, out);
+        let happening = called_so(call, &answer);
+        arrange(
+            &self.listener,
             &mut self.upkeeps,
-            self.pace,
             peer,
-            call,
+            &upkeep,
+            &happening,
+            self.pace,
             now,
-            out,
-        ) {
-            Ok(answer) => answer,
-            // Each flow has a place for what is kept of it.
-            Err(_) => unreachable!(),
-        }
+        );
+        answer
     }
 
     /// The first rule of a peer's path that is due makes its end do something. It takes no memory.
@@ -150,17 +159,18 @@ impl TimedListener {
         ensures after { self.new ≡ rule_followed now self.old peer }
         ensures sent { out.new ≡ frame_if self.old.listening peer (call_due now self.old peer) }
     {
-        match follow(
-            &mut self.listener,
+        let upkeep = upkeep_at(&self.upkeeps, self.pace, peer);
+        let rule = due_rule(&upkeep.path, now);
+        obey_at(&mut self.listener, peer, rule, upkeep.path.aim, out);
+        arrange(
+            &self.listener,
             &mut self.upkeeps,
-            self.pace,
             peer,
+            &upkeep,
+            &FlowHappening::Ruled(rule),
+            self.pace,
             now,
-            out,
-        ) {
-            Ok(()) => {}
-            Err(_) => unreachable!(),
-        }
+        );
     }
 
     /// The peer at whose flow something has been due for longest, and the first thing that is due there; of two peers
@@ -168,14 +178,20 @@ impl TimedListener {
     pub fn due(&self, now: u64) -> Option<(Peer, Due)>
         ensures { result ≡ first_due_flow now self.now.upkeeps }
     {
-        first_due_flow(&self.upkeeps, now)
+        match soonest(&self.upkeeps) {
+            Some(ticket) => due_of_flow(&self.upkeeps, ticket.peer, now),
+            None => None,
+        }
     }
 
     /// In how many milliseconds something is due at any flow; 2^64 - 1 if nothing will be.
     pub fn until_first(&self, now: u64) -> u64
         ensures { result ≡ least_wait now self.now.upkeeps }
     {
-        least_wait(&self.upkeeps, now)
+        match soonest(&self.upkeeps) {
+            Some(ticket) => ticket.time.saturating_sub(now),
+            None => u64::MAX,
+        }
     }
 
     /// How a fresh end answers a datagram of a peer: `Listener::greet`. Nothing is kept.
@@ -219,7 +235,10 @@ impl TimedListener {
     pub fn reader(&self, peer: Peer) -> Reader
         ensures { result ≡ (upkeep_at self.now.pace self.now.upkeeps peer).path.reader }
     {
-        reader_at(&self.upkeeps, self.pace, peer)
+        match self.upkeeps.get(peer) {
+            Some(upkeep) => upkeep.path.reader,
+            None => Upkeep::begins(self.pace).path.reader,
+        }
     }
 
     /// The configuration from which it was made.
