@@ -1,5 +1,6 @@
 -- What a server in C does with the first datagram of a peer (RFC 4340, section 8.1.2; own).
-use Rattle.std.specs.Prelude.{◌≡◌, ◌⊎◌, ℕ, ◌==◌, Bool, true, false, List, [], Option, Some, None, Result, Ok, Err, if◌then◌else◌}
+use Rattle.std.specs.Prelude.{◌≡◌, ◌⊎◌, ℕ, ◌==◌, true, List, Option, Some, None, Result, Ok, Err, if◌then◌else◌}
+use Rattle.std.specs.Option.{option_map}
 use Rattle.dccp_endpoint.specs.declared.config.Config.{Config}
 use Rattle.dccp_uses.specs.Session.{is_listening}
 use Rattle.dccp_uses.specs.declared.holding.Reading.{Reading}
@@ -35,15 +36,9 @@ abbrev pub accept_step : List ℕ → ℕ → Care → ℕ → Result Config ℕ
 accept_step bytes now care code (Ok config) = if code == 0 then Some (first_heard bytes now care config) else if code == 13 then Some (first_heard bytes now care config) else None
 accept_step bytes now care code (Err refusal) = None
 
--- The end of a connection, if there is one.
-abbrev pub accepted_from : Bool → Option (CStep Reading) → Option CEnd
-accepted_from true (Some step) = Some step.after
-accepted_from true None = None
-accepted_from false _ = None
-
--- what the handle holds once accepting has returned this code
+-- what the handle holds once accepting has returned this code: the end of a connection, if there is one
 abbrev pub accepted_end : List ℕ → ℕ → Care → ℕ → Result Config ℕ → Option CEnd
-accepted_end bytes now care code config = accepted_from (code == 0) (accept_step bytes now care code config)
+accepted_end bytes now care code config = if code == 0 then option_map (λ step. step.after) (accept_step bytes now care code config) else None
 
 -- the frame that answers the datagram, if it was heard
 abbrev pub step_frame : Option (CStep Reading) → FrameFields

@@ -1,7 +1,5 @@
--- The numbers by which C and the library name results, timers, phases and places (own).
+-- The numbers by which C and the library name results, timers and places (own).
 use Rattle.std.specs.Prelude.{ℕ, ◌==◌, Bool, true, false, Option, Some, None, Result, Ok, Err, if◌then◌else◌}
-use Rattle.dccp_states.specs.declared.phase.Phase.{Phase}
-use Rattle.dccp_states.specs.declared.phase.Phase.TheVariants as phases
 use Rattle.dccp_states.specs.declared.calls.AbortFault.{AbortFault}
 use Rattle.dccp_states.specs.declared.calls.AbortFault.TheVariants.{NotLive}
 use Rattle.dccp_states.specs.declared.calls.CloseFault.{CloseFault}
@@ -78,18 +76,6 @@ timer_coded n =
     else if n == 4 then Some timers.Close
     else if n == 5 then Some timers.TimeWait
     else None
-
--- the number of a phase, in the order of RFC 4340, section 8.4
-abbrev pub phase_code : Phase → ℕ
-phase_code phases.Closed = 0
-phase_code phases.Listen = 1
-phase_code phases.Request = 2
-phase_code phases.Respond = 3
-phase_code phases.PartOpen = 4
-phase_code phases.Open = 5
-phase_code phases.CloseReq = 6
-phase_code phases.Closing = 7
-phase_code phases.TimeWait = 8
 
 -- the number of a negotiation's stand
 abbrev pub stand_code : Stand → ℕ

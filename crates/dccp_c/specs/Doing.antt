@@ -1,5 +1,6 @@
 -- What C gets from a call of an end (own; the steps are the end's).
 use Rattle.std.specs.Prelude.{◌≡◌, ℕ, Bool, true, false, List, [], Option, Some, None, unwrap_or}
+use Rattle.std.specs.Option.{option_map}
 use Rattle.data_dropped.specs.declared.drops.DropEntry.{DropEntry}
 use Rattle.dccp_listener.specs.Chain.{FlowCall}
 use Rattle.dccp_server.specs.Due.{never}
@@ -30,8 +31,7 @@ c_end held = record { timed = held.timed; inbox = held.intake; cookie = held.coo
 
 -- the end that a handle holds, if any
 abbrev pub end_in : Option Inner → Option CEnd
-end_in None = None
-end_in (Some held) = Some (c_end held)
+end_in = option_map c_end
 
 -- the record of its packets that were dropped
 abbrev pub drops_in : Option Inner → List DropEntry
@@ -40,8 +40,7 @@ drops_in (Some held) = held.drops
 
 -- The end after a call, if there is one.
 abbrev pub kept_after : {Answer : Type 0} → CDoing Answer → Option CEnd → Option CEnd
-kept_after doing None = None
-kept_after doing (Some s) = Some (doing s).after
+kept_after doing = option_map (λ s. (doing s).after)
 
 -- The frame that a call hands out: the step's, or none if there is no end.
 abbrev pub frame_after : {Answer : Type 0} → CDoing Answer → Option CEnd → FrameFields

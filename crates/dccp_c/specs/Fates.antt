@@ -1,5 +1,6 @@
 -- What became of the data that an end has sent, and how long the next data may be (own).
 use Rattle.std.specs.Prelude.{◌≡◌, ℕ, ◌+◌, ◌-◌, ◌*◌, ◌/◌, ◌^◌, ◌<◌, ◌↔◌, min, Bool, true, false, List, length, Option, Some, None, if◌then◌else◌}
+use Rattle.std.specs.Option.{option_map}
 use Rattle.ack_vectors.specs.Vector.{numbers_between, option_room}
 use Rattle.ccid_two.specs.Kinds.{Both, kinds_control}
 use Rattle.congestion_trait.specs.Flight.{Has}
@@ -20,8 +21,7 @@ StandSo (Some e) number standing = (number < 2 ^ 48) × Has (kinds_control.fligh
 
 -- the end by itself
 abbrev pub end_alone : Option CEnd → Option (End Both)
-end_alone None = None
-end_alone (Some s) = Some s.timed.end
+end_alone = option_map (λ s. s.timed.end)
 
 -- The number of what became of data, by their standing and the code with which they were dropped, if they were: 2 if the peer has reported them,
 -- or 4 plus the Drop Code if it dropped them (RFC 4340, section 11.7); otherwise 3 if they are counted as lost, 1 if they are in flight, and 0

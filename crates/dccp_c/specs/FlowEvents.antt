@@ -49,8 +49,7 @@ next_event_in (Some s) = option_map (event_kept s.arrival) (first_event s.watche
 
 -- the listener without that event
 abbrev pub event_after : Option WatchedServer → Option WatchedServer
-event_after None = None
-event_after (Some s) = Some (record s { events = events_left s.events })
+event_after = option_map (λ (s : WatchedServer). record s { events = events_left s.events })
 
 -- the code of asking for it: 1 if there is no listener, 22 if there are no more events
 abbrev pub event_code : Option WatchedServer → ℕ
@@ -59,8 +58,7 @@ event_code (Some s) = if is_some (first_event s.events) then 0 else 22
 
 -- the server once a number was set for a peer's flow
 abbrev pub user_set_in : ℕ → Option WatchedServer → Peer → Option WatchedServer
-user_set_in user None peer = None
-user_set_in user (Some s) peer = Some (record s { server = record s.server { room = with_user user s.server.room peer } })
+user_set_in user held peer = option_map (λ (s : WatchedServer). record s { server = record s.server { room = with_user user s.server.room peer } }) held
 
 -- the code of that: 15 if the peer has no flow, 1 if there is no listener
 abbrev pub user_code : Option WatchedServer → Peer → ℕ

@@ -1,5 +1,6 @@
 -- Data of a listener's flows that wait until C reads them (own).
-use Rattle.std.specs.Prelude.{◌≡◌, ◌⊎◌, ◌==◌, ℕ, Bool, true, false, is_some, Option, Some, None, if◌then◌else◌}
+use Rattle.std.specs.Prelude.{◌≡◌, ◌⊎◌, ◌==◌, ℕ, Option, Some, None, if◌then◌else◌}
+use Rattle.std.specs.Option.{option_map}
 use Rattle.dccp_listener.specs.Peers.{FlowEnd, end_of_peer}
 use Rattle.dccp_listener.specs.declared.peer.Peer.{Peer}
 use Rattle.dccp_server.specs.FlowInboxes.{Inboxes, flow_first_read, flow_held, flow_read_over, flow_stopped, flow_without_first, tidied, with_place}
@@ -9,8 +10,7 @@ use Rattle.dccp_c.specs.declared.reading.ReadData.{ReadData}
 
 -- The listener once the first data of a peer were read: an inbox of a flow that is over goes with the last of them.
 abbrev pub without_first_of : Option OwnedServerState → Peer → Option OwnedServerState
-without_first_of None peer = None
-without_first_of (Some s) peer = Some (record s { inboxes = tidied (flow_without_first s.inboxes peer) s.watched.server peer })
+without_first_of held peer = option_map (λ (s : OwnedServerState). record s { inboxes = tidied (flow_without_first s.inboxes peer) s.watched.server peer }) held
 
 -- what C gets: the number and the length of the peer's first data, if some wait, and their bytes over what was there
 abbrev pub flow_data_read : Option OwnedServerState → Peer → ReadData → ReadData

@@ -1,5 +1,6 @@
 -- What C gets about a flow before it opens (own).
 use Rattle.std.specs.Prelude.{ℕ, Bool, is_some, List, Option, Some, None, if◌then◌else◌}
+use Rattle.std.specs.Option.{option_map}
 use Rattle.dccp_listener.specs.declared.peer.Peer.{Peer}
 use Rattle.dccp_server.specs.Events.{WatchedServer, shut_out}
 use Rattle.dccp_server.specs.Refusals.{refused_frame}
@@ -16,24 +17,14 @@ asked_in (Some s) peer bytes = flow_asked s.server.room.served.listening peer by
 abbrev pub service_asked : Option WatchedServer → Peer → List ℕ → Option ℕ
 service_asked held peer bytes = if is_short bytes then asked_in held peer bytes else None
 
--- The code of asking for it: 1 if there is no listener, and 13 if the datagram opens no flow.
-abbrev pub asked_code : Option WatchedServer → Option ℕ → ℕ
-asked_code None asked = 1
-asked_code (Some s) None = 13
-asked_code (Some s) (Some service) = 0
-
--- the same, with 5 if the datagram is too long
+-- The code of asking for it, and of refusing it: 5 if the datagram is too long, 1 if there is no listener, and 13 if it opens no flow.
 abbrev pub asks_code : Option WatchedServer → Peer → List ℕ → ℕ
-asks_code held peer bytes = if is_short bytes then asked_code held (asked_in held peer bytes) else 5
+asks_code held peer bytes =
+    if is_short bytes then (if is_some held then (if is_some (asked_in held peer bytes) then 0 else 13) else 1) else 5
 
--- the server once it has refused a datagram
-abbrev pub refused_in : ℕ → Option WatchedServer → Peer → List ℕ → Option WatchedServer
-refused_in now None peer bytes = None
-refused_in now (Some s) peer bytes = Some (shut_out now s peer bytes)
-
--- the same, if the datagram is short enough
+-- the server once it has refused a datagram, if it is short enough
 abbrev pub refused_after : ℕ → Option WatchedServer → Peer → List ℕ → Option WatchedServer
-refused_after now held peer bytes = if is_short bytes then refused_in now held peer bytes else held
+refused_after now held peer bytes = if is_short bytes then option_map (λ s. shut_out now s peer bytes) held else held
 
 -- the Reset with this code that then goes out, if an answer may
 abbrev pub refused_reset : ℕ → Option WatchedServer → Peer → List ℕ → ℕ → FrameFields
@@ -44,16 +35,6 @@ refused_reset now (Some s) peer bytes code = handed_of (refused_frame now s.serv
 abbrev pub refused_left : ℕ → Option WatchedServer → Peer → List ℕ → ℕ → FrameFields
 refused_left now held peer bytes code = if is_short bytes then refused_reset now held peer bytes code else nothing_handed
 
--- the code of refusing it: 13 if it opens no flow, and 1 if there is no listener
-abbrev pub refused_code : Option WatchedServer → Peer → List ℕ → ℕ
-refused_code None peer bytes = 1
-refused_code (Some s) peer bytes = if is_some (flow_asked s.server.room.served.listening peer bytes) then 0 else 13
-
--- the same, with 5 if it is too long
-abbrev pub refuses_code : Option WatchedServer → Peer → List ℕ → ℕ
-refuses_code held peer bytes = if is_short bytes then refused_code held peer bytes else 5
-
 -- the server once it takes no new flows, or takes them again
 abbrev pub set_shut_in : Bool → Option WatchedServer → Option WatchedServer
-set_shut_in is_shut None = None
-set_shut_in is_shut (Some s) = Some (record s { is_shut = is_shut })
+set_shut_in is_shut = option_map (λ (s : WatchedServer). record s { is_shut = is_shut })

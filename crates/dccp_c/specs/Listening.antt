@@ -5,7 +5,7 @@ use Rattle.std.specs.Option.{option_map}
 use Rattle.data_dropped.specs.declared.answers.Arrival.{Arrival}
 use Rattle.dccp_listener.specs.Chain.{Calls, FlowCall, Sends}
 use Rattle.dccp_listener.specs.Listens.{listens}
-use Rattle.dccp_listener.specs.Peers.{FlowEnd, end_of_peer}
+use Rattle.dccp_listener.specs.Peers.{end_of_peer}
 use Rattle.dccp_listener.specs.Runs.{CallTold, Stepped, WasBusy, HadNoMemory}
 use Rattle.dccp_listener.specs.declared.calls.Heard.{Heard}
 use Rattle.seq_circle.specs.declared.memory.NoMemory.{NoMemory}
@@ -23,7 +23,6 @@ use Rattle.dccp_server.specs.Rooms.{Room, RuledRoom, duty_done, duty_frame, duty
 use Rattle.server_peers.specs.Strangers.{told_of_arrival}
 use Rattle.dccp_server.specs.Serving.{Does, flow_restraint, upkeep_at}
 use Rattle.dccp_uses.specs.declared.reader.Restraint.{Restraint}
-use Rattle.dccp_uses.specs.declared.rule.Rule.{Rule}
 use Rattle.dccp_uses.specs.declared.rule.Rule.TheVariants as rules
 use Rattle.path_rules.specs.declared.limits.Limit.{Limit}
 use Rattle.dccp_server.specs.declared.duty.Duty.{Duty}
@@ -57,13 +56,11 @@ use Rattle.dccp_c.specs.declared.readers.View.{View}
 
 -- the server that a handle holds, if any, with its events, and without the place for its frame
 abbrev pub watched_in : Option InnerListener → Option WatchedServer
-watched_in None = None
-watched_in (Some held) = Some held.server
+watched_in = option_map (λ held. held.server)
 
 -- the same without its events
 abbrev pub served_in : Option InnerListener → Option RuledRoom
-served_in None = None
-served_in (Some held) = Some held.server.server
+served_in = option_map (λ held. held.server.server)
 
 -- a server with its events, the data of its flows that wait, and what became of the data of the last datagram, if they came into an inbox
 pub record OwnedServerState : Type 0 where
@@ -77,13 +74,11 @@ holding_of held = record { watched = held.server; inboxes = held.inboxes; arriva
 
 -- the same for a handle, if it holds one
 abbrev pub holding_in : Option InnerListener → Option OwnedServerState
-holding_in None = None
-holding_in (Some held) = Some (holding_of held)
+holding_in = option_map holding_of
 
 -- the data of its flows that wait
 abbrev pub inboxes_in : Option InnerListener → Option Inboxes
-inboxes_in None = None
-inboxes_in (Some held) = Some held.inboxes
+inboxes_in = option_map (λ held. held.inboxes)
 
 -- the record of the packets that its peers have reported as dropped
 abbrev pub flow_drops_in : Option InnerListener → List FlowDrop
@@ -265,20 +260,12 @@ HearsDatagram now (Some s) None peer first bytes None left evicted way code old 
 HearsDatagram now (Some s) (Some after) peer first bytes None left evicted way code old new =
     HearsIfOpen now s after peer first bytes (is_shut_out s.watched peer bytes) left evicted way code old new
 
--- the code of what a rule of a path made a flow do: 19 if it was given up
-abbrev pub rule_code : Rule → ℕ
-rule_code rules.Nothing = 0
-rule_code rules.GiveUp = 19
-rule_code rules.TimeOut = 0
-rule_code rules.Probe = 0
-rule_code rules.Ask = 0
-rule_code rules.Ratio = 0
-
 -- the code of a duty: 12 if there was none, 19 if a flow was given up
 abbrev pub duty_code : Option Duty → ℕ
 duty_code None = 12
 duty_code (Some (Ring peer timer)) = 0
-duty_code (Some (Follow peer rule)) = rule_code rule
+duty_code (Some (Follow peer rules.GiveUp)) = 19
+duty_code (Some (Follow peer _)) = 0
 duty_code (Some (GiveUp peer)) = 19
 
 -- the peer of a duty, as C gets it
@@ -407,27 +394,20 @@ cookies_of n = if n == 0 then Never else if n == 1 then InACrowd else Always
 
 -- the server once it follows these rules, and uses cookies in this way
 abbrev pub ruled_by : Rules → CookieUse → Option WatchedServer → Option WatchedServer
-ruled_by rules cookies None = None
-ruled_by rules cookies (Some s) = Some (record s { server = record s.server { rules = rules; cookies = cookies } })
+ruled_by rules cookies = option_map (λ (s : WatchedServer). record s { server = record s.server { rules = rules; cookies = cookies } })
 
 -- the server once its cookies are written with this key
 abbrev pub rekeyed_in : List ℕ → ℕ → Option WatchedServer → Option WatchedServer
-rekeyed_in key now None = None
-rekeyed_in key now (Some s) = Some (record s { server = record s.server { keys = Some (rekeyed key now s.server.keys) } })
+rekeyed_in key now = option_map (λ (s : WatchedServer). record s { server = record s.server { keys = Some (rekeyed key now s.server.keys) } })
 
 -- what C may know of a peer's flow besides its end
 abbrev pub known_of : Life → FlowLife
 known_of life = record { size = 32; since = life.since; taken = life.taken; user = life.user }
 
--- its life, if there is a flow
-abbrev pub life_if : Option FlowEnd → Life → Option Life
-life_if None life = None
-life_if (Some e) life = Some life
-
 -- the same, if there is a server and the peer has a flow
 abbrev pub life_in : Option RuledRoom → Peer → Option FlowLife
 life_in None peer = None
-life_in (Some s) peer = option_map known_of (life_if (end_of_peer s.room.served.listening.flows peer) (life_of s.room.lives peer))
+life_in (Some s) peer = option_map (λ e. known_of (life_of s.room.lives peer)) (end_of_peer s.room.served.listening.flows peer)
 
 -- the code of a call that only needs a listener
 abbrev pub made_code : Option WatchedServer → ℕ

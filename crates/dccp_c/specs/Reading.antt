@@ -1,5 +1,6 @@
 -- Data that wait until C reads them (own).
 use Rattle.std.specs.Prelude.{ℕ, List, Option, Some, None}
+use Rattle.std.specs.Option.{option_map}
 use Rattle.data_dropped.specs.Inbox.{InboxState}
 use Rattle.data_dropped.specs.Intakes.{count_held, first_read, read_over, without_first, without_listener}
 use Rattle.dccp_c.specs.Stepping.{CEnd}
@@ -7,8 +8,7 @@ use Rattle.dccp_c.specs.declared.reading.ReadData.{ReadData}
 
 -- the end once the first data were read
 abbrev pub without_first_read : Option CEnd → Option CEnd
-without_first_read None = None
-without_first_read (Some s) = Some (record s { inbox = without_first s.inbox })
+without_first_read = option_map (λ (s : CEnd). record s { inbox = without_first s.inbox })
 
 -- what C gets: the number and the length of the first data, if some wait, and their bytes over what was there
 abbrev pub read_data_of : Option (ℕ × ℕ) → List ℕ → ReadData → ReadData
@@ -32,8 +32,7 @@ read_code (Some s) = code_of_first (first_read s.inbox)
 
 -- the end once its application has stopped listening
 abbrev pub with_stop : Option CEnd → Option CEnd
-with_stop None = None
-with_stop (Some s) = Some (record s { inbox = without_listener s.inbox })
+with_stop = option_map (λ (s : CEnd). record s { inbox = without_listener s.inbox })
 
 -- 0 if it has an inbox, otherwise 12
 abbrev pub code_of_inbox : Option InboxState → ℕ

@@ -5,7 +5,7 @@ use Rattle.dccp_endpoint.specs.Controlled.{End, in_flight_of, window_of}
 use Rattle.dccp_endpoint.specs.End.{held_of, marked_of}
 use Rattle.feature_lists.specs.declared.features.Feature.{Feature}
 use Rattle.feature_lists.specs.declared.features.Place.{Place}
-use Rattle.dccp_c.specs.Codes.{phase_code, stand_code}
+use Rattle.dccp_c.specs.Codes.{stand_code}
 use Rattle.dccp_states.specs.declared.calls.Timer.TheVariants as timers
 use Rattle.dccp_uses.specs.Alarms.{starting_wait_by}
 use Rattle.dccp_uses.specs.Path.{path_waits}
@@ -13,6 +13,7 @@ use Rattle.dccp_uses.specs.Timed.{TimedState}
 use Rattle.path_rules.specs.Allowance.{window_within}
 use Rattle.path_rules.specs.declared.allowance.Allowance.{Allowance}
 use Rattle.path_rules.specs.declared.round_trip.RoundTrip.{RoundTrip}
+use Rattle.server_peers.specs.Lives.{rank_of}
 use Rattle.dccp_c.specs.Stepping.{CEnd}
 use Rattle.dccp_c.specs.declared.readers.FeatureState.{FeatureState}
 use Rattle.dccp_c.specs.declared.readers.RoundTripView.{RoundTripView}
@@ -29,7 +30,7 @@ seen e =
       isr = e.state.marks.isr;
       gsr = e.state.marks.gsr;
       marked = marked_of e.state;
-      phase = phase_code e.state.phase;
+      phase = rank_of e.state.phase;
       window = window_of kinds_control e.congestion;
       in_flight = in_flight_of kinds_control e.congestion;
       service = e.state.config.service;

@@ -39,7 +39,7 @@ pub extern "C" fn dccp_make(
     ensures end { end_in end.new.kept.value ≡ made_of result (care_by settings.now) (configured_by settings.now wishes.now) }
     ensures code { MakesCode (configured_by settings.now wishes.now) result }
 {
-    end.clear(alloc);
+    *end = End::none(alloc);
     let config = match configured_by(settings, wishes) {
         Ok(config) => config,
         Err(code) => return code,
@@ -78,7 +78,7 @@ pub extern "C" fn dccp_accept(
             accept(end, alloc, config, &care, datagram, now, frame, told)
         }
         Err(code) => {
-            end.clear(alloc);
+            *end = End::none(alloc);
             frame.clear();
             code
         }
@@ -102,7 +102,7 @@ fn accept(
     ensures told { told.new ≡ step_told (accept_step datagram.now now care.now result (Ok config)) told.old }
     ensures code { AcceptsCode datagram.now now care.now (Ok config) result }
 {
-    end.clear(alloc);
+    *end = End::none(alloc);
     frame.clear();
     if MOST_FRAME_BYTES < datagram.len() {
         return TOO_LONG;
@@ -124,7 +124,7 @@ fn accept(
 pub extern "C" fn dccp_free(end: &mut End, alloc: Global)
     ensures { end.new.kept.value ≡ None }
 {
-    end.clear(alloc);
+    *end = End::none(alloc);
 }
 
 // A call of an end by its owner, for C.

@@ -1,10 +1,10 @@
-//! The codes that the calls return, and the numbers by which C names a feature, a timer and a phase.
+//! The codes that the calls return, and the numbers by which C names a feature and a timer.
 ghost use Rattle.std.specs.Prelude.{◌≡◌};
 ghost use Rattle.feature_lists.specs.Features.{feature_numbered};
-ghost use Rattle.dccp_c.specs.Codes.{abort_code, close_code, open_code, phase_code, place_by, restraint_code, send_code, stand_code, timer_coded, timer_code, wish_code};
+ghost use Rattle.dccp_c.specs.Codes.{abort_code, close_code, open_code, place_by, restraint_code, send_code, stand_code, timer_coded, timer_code, wish_code};
 
 use dccp_endpoint::{
-    AbortFault, CloseFault, Feature, OpenFault, Phase, Place, PreferFault, SendFault, Stand, Timer,
+    AbortFault, CloseFault, Feature, OpenFault, Place, PreferFault, SendFault, Stand, Timer,
 };
 use dccp_uses::{Restraint, SendRefusal};
 
@@ -174,22 +174,6 @@ pub(crate) fn timer_of(number: u32) -> Option<Timer>
         4 => Some(Timer::Close),
         5 => Some(Timer::TimeWait),
         _ => None,
-    }
-}
-
-pub(crate) fn phase_code(phase: Phase) -> u32
-    ensures { result ≡ phase_code phase }
-{
-    match phase {
-        Phase::Closed => 0,
-        Phase::Listen => 1,
-        Phase::Request => 2,
-        Phase::Respond => 3,
-        Phase::PartOpen => 4,
-        Phase::Open => 5,
-        Phase::CloseReq => 6,
-        Phase::Closing => 7,
-        Phase::TimeWait => 8,
     }
 }
 

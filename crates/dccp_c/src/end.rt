@@ -27,13 +27,6 @@ impl End {
         }
     }
 
-    /// Frees what it holds, if anything.
-    pub fn clear(&mut self, alloc: Global)
-        ensures { self.new.kept.value ≡ None }
-    {
-        *self = End::none(alloc);
-    }
-
     fn into_box(self) -> Option<Box<OwnedEnd>>
         ensures { self.kept.value ≡ option_map (λ held. held.value) result }
     {

@@ -57,12 +57,8 @@ pub extern "C" fn dccp_listener_fate_of(
     let Some(serving) = listener.take(alloc) else {
         return FATE_UNKNOWN;
     };
-    let fate = flow_fate(
-        serving.server.server(),
-        &serving.drops,
-        peer_named(peer),
-        number,
-    );
+    let server = serving.server.server();
+    let fate = flow_fate(server, &serving.drops, peer_named(peer), number);
     listener.put(serving);
     fate
 }
@@ -107,10 +103,8 @@ fn upkeep_seen(upkeep: &Upkeep) -> RoundTripView
 fn path_of(server: &Server, peer: Peer) -> Option<RoundTripView>
     ensures { result ≡ option_map (λ e. upkeep_seen (upkeep_at server.now.room.served.pace server.now.room.served.upkeeps peer)) (end_of_peer server.now.room.served.listening.flows peer) }
 {
-    match server.flow(peer) {
-        Some(_) => Some(upkeep_seen(&server.upkeep(peer))),
-        None => None,
-    }
+    let _ = server.flow(peer)?;
+    Some(upkeep_seen(&server.upkeep(peer)))
 }
 
 /// What was measured of the path to a peer. Returns DONE, OTHER_SIZE, NOT_MADE or NO_FLOW.

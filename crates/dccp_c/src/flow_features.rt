@@ -51,10 +51,7 @@ pub extern "C" fn dccp_listener_prefer(
 fn feature_at(server: &Server, peer: Peer, feature: Feature, place: Place) -> Option<FeatureState>
     ensures { result ≡ option_map (seen_feature feature place) (end_of_peer server.now.room.served.listening.flows peer) }
 {
-    match server.flow(peer) {
-        Some(end) => Some(seen_feature(end, feature, place)),
-        None => None,
-    }
+    Some(seen_feature(server.flow(peer)?, feature, place))
 }
 
 /// What a peer's end holds for the feature with this number at the peer or here. Returns DONE, NOT_MADE, NO_FLOW, or
@@ -78,12 +75,8 @@ pub extern "C" fn dccp_listener_feature(
     let Some(serving) = listener.take(alloc) else {
         return NOT_MADE;
     };
-    let found = feature_at(
-        serving.server.server(),
-        peer_named(peer),
-        feature,
-        place_of(at_peer),
-    );
+    let (server, place) = (serving.server.server(), place_of(at_peer));
+    let found = feature_at(server, peer_named(peer), feature, place);
     listener.put(serving);
     hand_found(found, state)
 }

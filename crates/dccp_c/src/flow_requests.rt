@@ -1,6 +1,6 @@
 //! The functions of a listener that C calls before a flow opens.
-ghost use Rattle.std.specs.Prelude.{◌≡◌, ◌≤◌, if◌then◌else◌, is_some, length, unwrap_or};
-ghost use Rattle.dccp_c.specs.FlowRequests.{asks_code, refused_after, refused_left, refuses_code, service_asked, set_shut_in};
+ghost use Rattle.std.specs.Prelude.{◌≡◌, ◌≤◌, is_some, length, unwrap_or};
+ghost use Rattle.dccp_c.specs.FlowRequests.{asks_code, refused_after, refused_left, service_asked, set_shut_in};
 ghost use Rattle.dccp_c.specs.Framing.{handed_in};
 ghost use Rattle.dccp_c.specs.Listening.{inboxes_in, made_code, peer_named, watched_in};
 ghost use Rattle.dccp_server.specs.Events.{shut_out};
@@ -14,16 +14,7 @@ use crate::serving::OwnedServer;
 use crate::{ListenerHandle, PeerAddress};
 use dccp_endpoint::MOST_FRAME_BYTES;
 use dccp_listener::Peer;
-use dccp_server::Server;
 use std::alloc::Global;
-
-// What a datagram that is short enough asks for.
-fn asks(server: &Server, peer: Peer, datagram: &[u8]) -> Option<u32>
-    requires { length datagram.now ≤ 2044 }
-    ensures { result ≡ flow_asked server.now.room.served.listening peer datagram.now }
-{
-    server.asks(peer, datagram)
-}
 
 /// The Service Code of the flow that a datagram of a peer would open, so that C may decide whether to accept it.
 /// Returns DONE, TOO_LONG, NOT_MADE, or NO_CONNECTION if it opens none. Nothing changes.
@@ -45,7 +36,7 @@ pub extern "C" fn dccp_listener_asks(
     let Some(serving) = listener.take(alloc) else {
         return NOT_MADE;
     };
-    let asked = asks(serving.server.server(), peer_named(peer), datagram);
+    let asked = serving.server.server().asks(peer_named(peer), datagram);
     listener.put(serving);
     match asked {
         Some(asked) => {
@@ -54,12 +45,6 @@ pub extern "C" fn dccp_listener_asks(
         }
         None => NO_CONNECTION,
     }
-}
-
-fn opening_code(opens: bool) -> u32
-    ensures { result ≡ (if opens then 0 else 13) }
-{
-    if opens { DONE } else { NO_CONNECTION }
 }
 
 // Refuses a datagram that is short enough.
@@ -90,7 +75,7 @@ pub extern "C" fn dccp_listener_refuse(
     ensures listener { watched_in listener.new.kept.value ≡ refused_after now (watched_in listener.old.kept.value) (peer_named peer.now) datagram.now }
     ensures inboxes { inboxes_in listener.new.kept.value ≡ inboxes_in listener.old.kept.value }
     ensures frame { handed_in frame.new ≡ refused_left now (watched_in listener.old.kept.value) (peer_named peer.now) datagram.now code }
-    ensures code { result ≡ refuses_code (watched_in listener.old.kept.value) (peer_named peer.now) datagram.now }
+    ensures code { result ≡ asks_code (watched_in listener.old.kept.value) (peer_named peer.now) datagram.now }
 {
     frame.clear();
     if MOST_FRAME_BYTES < datagram.len() {
@@ -102,7 +87,7 @@ pub extern "C" fn dccp_listener_refuse(
     let opens = refuse(&mut serving, peer_named(peer), datagram, code, now);
     frame.fill(&serving.out);
     listener.put(serving);
-    opening_code(opens)
+    if opens { DONE } else { NO_CONNECTION }
 }
 
 /// Takes no new flows from now on, or takes them again; present flows go on. Returns DONE or NOT_MADE.

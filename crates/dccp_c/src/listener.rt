@@ -27,13 +27,6 @@ impl ListenerHandle {
         }
     }
 
-    // Frees what it holds, if anything.
-    pub(crate) fn clear(&mut self, alloc: Global)
-        ensures { self.new.kept.value ≡ None }
-    {
-        *self = ListenerHandle::none(alloc);
-    }
-
     fn into_box(self) -> Option<Box<OwnedServer>>
         ensures { self.kept.value ≡ option_map (λ held. held.value) result }
     {

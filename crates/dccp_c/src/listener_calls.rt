@@ -1,9 +1,9 @@
 //! The functions of a listener that C calls: each does one thing with the listener that its handle holds.
-ghost use Rattle.std.specs.Prelude.{◌≡◌, ◌==◌, ◌≢◌, ◌≤◌, IfOk, None, Ok, Some, OnErr, OnOk, false, if◌then◌else◌, is_some, length, true, unwrap_or};
+ghost use Rattle.std.specs.Prelude.{◌≡◌, ◌==◌, ◌≤◌, IfOk, None, Ok, Some, OnErr, OnOk, false, if◌then◌else◌, is_some, length, true, unwrap_or};
 ghost use Rattle.dccp_listener.specs.Calls.{seen_if};
-ghost use Rattle.dccp_listener.specs.Chain.{Aborts, Calls, Closes, Fires, Sends, asked};
+ghost use Rattle.dccp_listener.specs.Chain.{Aborts, Calls, Closes, Fires, asked};
 ghost use Rattle.dccp_listener.specs.Listens.{listens};
-ghost use Rattle.dccp_listener.specs.Runs.{Stepped, told_of};
+ghost use Rattle.dccp_listener.specs.Runs.{Stepped};
 ghost use Rattle.std.specs.Option.{option_map};
 ghost use Rattle.dccp_c.specs.Framing.{handed_in, handed_of};
 ghost use Rattle.dccp_c.specs.Making.{MakesCode, care_by};
@@ -11,20 +11,17 @@ ghost use Rattle.dccp_c.specs.Founding.{founded_of, listening_by};
 ghost use Rattle.dccp_listener.specs.Peers.{end_of_peer};
 ghost use Rattle.dccp_packets.specs.ResetCodes.{number_of_code};
 ghost use Rattle.dccp_packets.specs.declared.reset_code.ResetCode.TheVariants as codes;
-ghost use Rattle.dccp_server.specs.Events.{called_on, ends_old, entry_at, heard_on, is_shut_out, room_maker, shut_out, ticked_on};
-ghost use Rattle.server_peers.specs.Events.{aborted_end, silent_end};
+ghost use Rattle.dccp_server.specs.Events.{ends_old, entry_at, heard_on, is_shut_out, room_maker, shut_out};
 ghost use Rattle.dccp_server.specs.FlowDrops.{flow_record_after};
 ghost use Rattle.dccp_server.specs.FlowInboxes.{flow_speaks};
 ghost use Rattle.server_peers.specs.Lives.{life_of};
 ghost use Rattle.dccp_server.specs.Refusals.{refused_frame};
-ghost use Rattle.server_peers.specs.declared.flow_event.EndCause.TheVariants as causes;
 ghost use Rattle.dccp_server.specs.Meeting.{IsMet, may_meet};
-ghost use Rattle.dccp_server.specs.Rooms.{duty_done, duty_frame, duty_in, forgets, room_does};
+ghost use Rattle.dccp_server.specs.Rooms.{duty_frame, duty_in};
 ghost use Rattle.server_peers.specs.Strangers.{told_of_arrival};
-ghost use Rattle.dccp_server.specs.Serving.{Does};
 ghost use Rattle.dccp_c.specs.Seeing.{if_sized, sized_code};
 ghost use Rattle.dccp_c.specs.Codes.{timer_coded};
-ghost use Rattle.dccp_c.specs.Listening.{Forgets, HandsHeard, HasTakenIn, HearsDatagram, HearsIfOpen, MayDeliver, SendsUnheld, Serves, ServesIfKnown, Ticks, address_of, arrival_code, arrival_told, cookies_of, counted_of, datagram_refusal, duty_address, duty_code, duty_left, evicted_in, first_peer_in, flow_code, flow_in, flows_in, holding_in, holding_of, holds_called, holds_done, holds_forgotten, holds_on, holds_ticked, inboxes_in, known_of, life_if, life_in, listen_code, listen_told, listener_waits, made_code, next_peer_in, peer_named, refusal_code, rekeyed_in, restraint_in, rule_code, ruled_by, rules_of, seen_code, served_in, watched_in, way_in, way_number};
+ghost use Rattle.dccp_c.specs.Listening.{Forgets, HandsHeard, HasTakenIn, HearsDatagram, HearsIfOpen, MayDeliver, SendsUnheld, Serves, ServesIfKnown, Ticks, address_of, arrival_code, arrival_told, cookies_of, counted_of, datagram_refusal, duty_address, duty_code, duty_left, evicted_in, first_peer_in, flow_code, flow_in, flows_in, holding_in, holding_of, holds_called, holds_done, holds_forgotten, holds_on, holds_ticked, inboxes_in, known_of, life_in, listen_code, listener_waits, made_code, next_peer_in, peer_named, refusal_code, rekeyed_in, restraint_in, ruled_by, rules_of, served_in, watched_in, way_in, way_number};
 
 use crate::codes::{
     BAD_LIST, BUSY, DONE, GAVE_UP, NO_FLOW, NO_MEMORY, NO_NUMBER, NO_TIMER, NOT_FRESH, NOT_LIVE,
@@ -45,6 +42,7 @@ use dccp_endpoint::{MOST_FRAME_BYTES, NoMemory, Outbox, Refusal, Seen, Seq48, Us
 use dccp_listener::{Heard, NoFlow, Peer};
 use dccp_server::{
     Duty, EventServer, FlowDropRecord, FlowInboxes, Meeting, NoNewFlows, Rules, Server, Way,
+    room_maker,
 };
 use dccp_uses::{Restraint, Rule};
 use std::alloc::Global;
@@ -64,47 +62,28 @@ fn refusal_code(refusal: Refusal) -> u32
     }
 }
 
-fn seen_code(seen: &Seen) -> u32
-    ensures { result ≡ seen_code seen.now }
-{
-    match *seen {
-        Seen::Called(Ok(())) => DONE,
-        Seen::Called(Err(refusal)) => refusal_code(refusal),
-        Seen::Fired(applies) => timer_code(applies),
-        Seen::Received(_) => DONE,
-    }
-}
-
 fn call_code(answer: &Result<Seen, NoFlow>) -> u32
     ensures { result ≡ listen_code (Stepped (seen_if answer.now)) }
 {
-    match answer {
-        Ok(seen) => seen_code(seen),
+    match *answer {
+        Ok(Seen::Called(Ok(())) | Seen::Received(_)) => DONE,
+        Ok(Seen::Called(Err(refusal))) => refusal_code(refusal),
+        Ok(Seen::Fired(applies)) => timer_code(applies),
         Err(NoFlow) => NO_FLOW,
     }
 }
 
-// Tells C what became of a datagram that was heard.
-fn tell_heard(heard: &Heard, told: &mut Told) -> u32
-    ensures told { told.new ≡ listen_told (told_of (Ok heard.now)) told.old }
-    ensures code { result ≡ listen_code (told_of (Ok heard.now)) }
-{
-    match heard {
-        Heard::Flow(outcome) => {
-            *told = told_outcome(outcome);
-            DONE
-        }
-        Heard::Busy => BUSY,
-    }
-}
-
-// The same for a datagram that may have been left out.
+// Tells C what became of a datagram, which may have been left out.
 fn tell_arrival(heard: Option<Heard>, told: &mut Told) -> u32
     ensures told { told.new ≡ arrival_told (told_of_arrival (Ok heard)) told.old }
     ensures code { result ≡ arrival_code (told_of_arrival (Ok heard)) }
 {
     match heard {
-        Some(heard) => tell_heard(&heard, told),
+        Some(Heard::Flow(outcome)) => {
+            *told = told_outcome(&outcome);
+            DONE
+        }
+        Some(Heard::Busy) => BUSY,
         None => {
             *told = told_heard(None);
             DONE
@@ -116,19 +95,14 @@ fn tell_arrival(heard: Option<Heard>, told: &mut Told) -> u32
 fn view_of(server: &Server, peer: Peer) -> Option<View>
     ensures { result ≡ flow_in (Some server.now) peer }
 {
-    match server.flow(peer) {
-        Some(end) => Some(seen(end, server.upkeep(peer).path.reader.allowance)),
-        None => None,
-    }
+    let end = server.flow(peer)?;
+    Some(seen(end, server.upkeep(peer).path.reader.allowance))
 }
 
 fn address_if(peer: Option<Peer>) -> Option<PeerAddress>
     ensures { result ≡ option_map address_of peer }
 {
-    match peer {
-        Some(peer) => Some(address_of(peer)),
-        None => None,
-    }
+    Some(address_of(peer?))
 }
 
 /// Writes what was found of a flow, or its peer, into this place. Returns DONE, or NO_FLOW if nothing was found.
@@ -161,7 +135,7 @@ pub extern "C" fn dccp_listener_make(
     ensures listener { holding_in listener.new.kept.value ≡ founded_of result (care_by settings.now) (listening_by settings.now services.now wishes.now most) }
     ensures code { MakesCode (listening_by settings.now services.now wishes.now most) result }
 {
-    listener.clear(alloc);
+    *listener = ListenerHandle::none(alloc);
     let config = match listening_by(settings, services, wishes, most) {
         Ok(config) => config,
         Err(code) => return code,
@@ -195,16 +169,7 @@ pub extern "C" fn dccp_listener_make(
 pub extern "C" fn dccp_listener_free(listener: &mut ListenerHandle, alloc: Global)
     ensures { listener.new.kept.value ≡ None }
 {
-    listener.clear(alloc);
-}
-
-fn room_maker(made_room: Option<Peer>, evicted: Option<Peer>) -> Option<Peer>
-    ensures { result ≡ room_maker made_room evicted }
-{
-    match made_room {
-        Some(peer) => Some(peer),
-        None => evicted,
-    }
+    *listener = ListenerHandle::none(alloc);
 }
 
 // A datagram that is short enough, at a server.
@@ -306,7 +271,7 @@ fn hand(
     }
 }
 
-// A datagram that is short enough, at a server, for C.
+// A datagram that is short enough, at a server, for C, with one search for what is kept of the peer.
 fn serve(
     serving: &mut OwnedServer,
     peer: Peer,
@@ -319,6 +284,7 @@ fn serve(
     requires { length datagram.now ≤ 2044 }
     ensures { HearsIfOpen now (holding_of serving.old) (holding_of serving.new) peer iss datagram.now (is_shut_out serving.old.server peer datagram.now) (handed_in frame.new) serving.new.evicted serving.new.way result told.old told.new }
 {
+    serving.server.seek(peer);
     let had = has_flow(serving.server.server(), peer);
     match hear(serving, peer, iss, datagram, now) {
         Ok(meeting) => {
@@ -336,23 +302,6 @@ fn serve(
             REFUSED
         }
     }
-}
-
-// The same, with one search for what is kept of the peer.
-fn attend(
-    serving: &mut OwnedServer,
-    peer: Peer,
-    iss: Seq48,
-    datagram: &[u8],
-    now: u64,
-    frame: &mut Frame,
-    told: &mut Told,
-) -> u32
-    requires { length datagram.now ≤ 2044 }
-    ensures { HearsIfOpen now (holding_of serving.old) (holding_of serving.new) peer iss datagram.now (is_shut_out serving.old.server peer datagram.now) (handed_in frame.new) serving.new.evicted serving.new.way result told.old told.new }
-{
-    serving.server.seek(peer);
-    serve(serving, peer, iss, datagram, now, frame, told)
 }
 
 /// `EventServer::arrive`. BUSY if it answers Busy, and REFUSED if no new flows are taken and the datagram would open
@@ -382,7 +331,7 @@ pub extern "C" fn dccp_listener_arrive(
     let Some(mut serving) = listener.take(alloc) else {
         return NOT_MADE;
     };
-    let code = attend(
+    let code = serve(
         &mut serving,
         peer_named(peer),
         iss,
@@ -526,18 +475,12 @@ pub extern "C" fn dccp_listener_send(
 ) -> u32
     ensures { SendsUnheld now (holding_in listener.old.kept.value) (holding_in listener.new.kept.value) (peer_named peer.now) payload.now (handed_in frame.new) result (restraint_in (served_in listener.old.kept.value) (peer_named peer.now)) }
 {
-    if let Some(why) = held_back(listener, alloc, peer_named(peer)) {
+    let peer = peer_named(peer);
+    if let Some(why) = held_back(listener, alloc, peer) {
         frame.clear();
         return restraint_code(&why);
     }
-    call(
-        listener,
-        alloc,
-        peer_named(peer),
-        UserCall::Send(payload),
-        now,
-        frame,
-    )
+    call(listener, alloc, peer, UserCall::Send(payload), now, frame)
 }
 
 /// `Server::ask` with `UserCall::Close`. Returns DONE, NOT_MADE, NO_FLOW or NOT_OPEN.
@@ -551,14 +494,8 @@ pub extern "C" fn dccp_listener_close(
 ) -> u32
     ensures { Serves now (holding_in listener.old.kept.value) (holding_in listener.new.kept.value) (peer_named peer.now) Closes (handed_in frame.new) result }
 {
-    call(
-        listener,
-        alloc,
-        peer_named(peer),
-        UserCall::Close,
-        now,
-        frame,
-    )
+    let peer = peer_named(peer);
+    call(listener, alloc, peer, UserCall::Close, now, frame)
 }
 
 /// `Server::ask` with `UserCall::Abort`. Returns DONE, NOT_MADE, NO_FLOW or NOT_LIVE.
@@ -572,14 +509,8 @@ pub extern "C" fn dccp_listener_abort(
 ) -> u32
     ensures { Serves now (holding_in listener.old.kept.value) (holding_in listener.new.kept.value) (peer_named peer.now) Aborts (handed_in frame.new) result }
 {
-    call(
-        listener,
-        alloc,
-        peer_named(peer),
-        UserCall::Abort,
-        now,
-        frame,
-    )
+    let peer = peer_named(peer);
+    call(listener, alloc, peer, UserCall::Abort, now, frame)
 }
 
 /// `Server::ask` with `UserCall::Timer`, for the timer with this number: for an owner that keeps the timers of a flow
@@ -599,17 +530,8 @@ pub extern "C" fn dccp_listener_timer(
     let Some(timer) = timer_of(timer) else {
         return NO_TIMER;
     };
-    let call_of = UserCall::Timer(timer);
-    call(listener, alloc, peer_named(peer), call_of, now, frame)
-}
-
-fn rule_code(rule: Rule) -> u32
-    ensures { result ≡ rule_code rule }
-{
-    match rule {
-        Rule::Nothing | Rule::TimeOut | Rule::Probe | Rule::Ask | Rule::Ratio => DONE,
-        Rule::GiveUp => GAVE_UP,
-    }
+    let peer = peer_named(peer);
+    call(listener, alloc, peer, UserCall::Timer(timer), now, frame)
 }
 
 fn duty_code(duty: Option<Duty>) -> u32
@@ -617,9 +539,14 @@ fn duty_code(duty: Option<Duty>) -> u32
 {
     match duty {
         None => NOTHING_DUE,
-        Some(Duty::Ring(_, _)) => DONE,
-        Some(Duty::Follow(_, rule)) => rule_code(rule),
-        Some(Duty::GiveUp(_)) => GAVE_UP,
+        Some(Duty::GiveUp(_) | Duty::Follow(_, Rule::GiveUp)) => GAVE_UP,
+        Some(
+            Duty::Ring(_, _)
+            | Duty::Follow(
+                _,
+                Rule::Nothing | Rule::TimeOut | Rule::Probe | Rule::Ask | Rule::Ratio,
+            ),
+        ) => DONE,
     }
 }
 
@@ -846,12 +773,10 @@ pub extern "C" fn dccp_listener_rekey(
 }
 
 fn life_of(server: &Server, peer: Peer) -> Option<FlowLife>
-    ensures { result ≡ option_map known_of (life_if (end_of_peer server.now.room.served.listening.flows peer) (life_of server.now.room.lives peer)) }
+    ensures { result ≡ option_map (λ e. known_of (life_of server.now.room.lives peer)) (end_of_peer server.now.room.served.listening.flows peer) }
 {
-    match server.flow(peer) {
-        Some(_) => Some(known_of(&server.life(peer))),
-        None => None,
-    }
+    let _ = server.flow(peer)?;
+    Some(known_of(&server.life(peer)))
 }
 
 /// Since when a peer's flow has been in its phase, and when it last took a packet. Returns DONE, OTHER_SIZE, NOT_MADE

@@ -2,7 +2,7 @@
 ghost use Rattle.std.specs.Prelude.{◌≡◌, ◌≤◌};
 ghost use Rattle.feature_lists.specs.Wishes.{wish_of};
 ghost use Rattle.dccp_c.specs.Accepting.{as_server};
-ghost use Rattle.dccp_c.specs.Making.{care_by, configured_by, first_four, most_held_by, pace_by, pseudo_of, config_by, offered_so, unless_narrow, wished, wished_all, wished_list, wished_so};
+ghost use Rattle.dccp_c.specs.Making.{care_by, configured_by, first_four, pace_by, pseudo_of, config_by, offered_so, unless_narrow, wished, wished_all, wished_list, wished_so};
 
 use crate::codes::{
     BAD_LIST, NO_FEATURE, NO_NUMBER, NOT_OURS, OTHER_SIZE, feature_of, place_of, wish_code,
@@ -148,14 +148,6 @@ pub(crate) fn pace_by(settings: &Settings) -> Pace
     }
 }
 
-// How many packets' data may wait.
-fn most_held_by(settings: &Settings) -> u16
-    ensures value { result ≡ most_held_by settings.now }
-    ensures few { result ≤ 1024 }
-{
-    settings.most_held.min(1024) as u16
-}
-
 /// What is done for an end of these settings besides its own steps.
 pub(crate) fn care_by(settings: &Settings) -> Care
     ensures value { result ≡ care_by settings.now }
@@ -163,7 +155,7 @@ pub(crate) fn care_by(settings: &Settings) -> Care
 {
     Care {
         pace: pace_by(settings),
-        most_held: most_held_by(settings),
+        most_held: settings.most_held.min(1024) as u16,
     }
 }
 

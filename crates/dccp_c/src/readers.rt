@@ -2,12 +2,13 @@
 ghost use Rattle.std.specs.Prelude.{◌≡◌};
 ghost use Rattle.dccp_c.specs.Seeing.{seen, seen_feature, seen_path, seen_within, trip_seen};
 
-use crate::codes::{phase_code, stand_code};
+use crate::codes::stand_code;
 use crate::sizes::{ROUND_TRIP_VIEW_BYTES, VIEW_BYTES};
 use ccid_two::Kinds;
 use dccp_endpoint::{Endpoint, Feature, Place};
 use dccp_uses::TimedEnd;
 use path_rules::{Allowance, RoundTrip, window_within};
+use server_peers::rank_of;
 
 /// An end as C may read it.
 #[repr(C)]
@@ -75,7 +76,7 @@ fn seen_alone(end: &Endpoint<Kinds>) -> View
         isr: marks.isr.get(),
         gsr: marks.gsr.get(),
         marked: end.marked(),
-        phase: phase_code(end.phase()),
+        phase: u32::from(rank_of(end.phase())),
         window: end.window(),
         in_flight: end.in_flight(),
         service: end.service(),

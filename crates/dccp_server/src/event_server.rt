@@ -67,8 +67,8 @@ fn leaver_life(server: &Server, peer: Peer, bytes: &[u8], now: u64) -> Option<Li
     }
 }
 
-// The peer whose flow has made room.
-fn room_maker(made_room: Option<Peer>, evicted: Option<Peer>) -> Option<Peer>
+/// The peer whose flow has made room, for the flow that a cookie opened or for the datagram.
+pub fn room_maker(made_room: Option<Peer>, evicted: Option<Peer>) -> Option<Peer>
     ensures { result ≡ room_maker made_room evicted }
 {
     match made_room {

@@ -21,7 +21,7 @@ mod serving;
 mod timed_listener;
 
 pub use crate::duty::Duty;
-pub use crate::event_server::{EventServer, NoNewFlows};
+pub use crate::event_server::{EventServer, NoNewFlows, room_maker};
 pub use crate::flow_drops::{FlowDrop, FlowDropRecord};
 pub use crate::flow_inboxes::{FlowInboxes, event_kept};
 pub use crate::happening::FlowHappening;

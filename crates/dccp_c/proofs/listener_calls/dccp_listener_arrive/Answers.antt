@@ -7,7 +7,7 @@ use Rattle.dccp_c.proofs.listener_calls.dccp_listener_arrive.Goals as goal
 pub returns : goal.returns
 returns c =
     hears_so c.args.now (holding_in c.args.listener.now.kept.value) (holding_in c.put.new.self.kept.value) (holding_of c.deref_mut.result.now)
-    (holding_of c.attend-code.new.serving) (peer_named c.args.peer.now) c.peer_named.result c.args.first_number c.in-Some.iss c.args.datagram.now
-    (datagram_refusal c.args.first_number c.args.datagram.now) (handed_in c.attend-code.new.frame) (evicted_in c.put.new.self.kept.value)
-    c.attend-code.new.serving.evicted (way_in c.put.new.self.kept.value) c.attend-code.new.serving.way c.attend-code.result c.args.told.now c.attend-code.new.told
-    (search rules) (search rules) c.peer_named.ensures (search rules) (search rules) (search rules) (search rules) c.attend-code.ensures
+    (holding_of c.serve-code.new.serving) (peer_named c.args.peer.now) c.peer_named.result c.args.first_number c.in-Some.iss c.args.datagram.now
+    (datagram_refusal c.args.first_number c.args.datagram.now) (handed_in c.serve-code.new.frame) (evicted_in c.put.new.self.kept.value)
+    c.serve-code.new.serving.evicted (way_in c.put.new.self.kept.value) c.serve-code.new.serving.way c.serve-code.result c.args.told.now c.serve-code.new.told
+    (search rules) (search rules) c.peer_named.ensures (search rules) (search rules) (search rules) (search rules) c.serve-code.ensures
