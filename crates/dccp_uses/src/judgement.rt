@@ -9,11 +9,12 @@ ghost use Rattle.dccp_uses.specs.Notice.{notice_read, report_base};
 ghost use Rattle.dccp_uses.specs.Numbers.{whole_number};
 ghost use Rattle.dccp_uses.specs.Syncs.{has_windows, notice_judged, number_judged, number_unanswered, unanswered};
 
+use crate::datagram::DecodedDatagram;
 use crate::notice::notice_of;
 use crate::{Notice, Reader};
 use dccp_endpoint::{Congestion, Endpoint, Marks, Phase, Seq48};
 use dccp_options::options;
-use dccp_packets::{Kind, Number, Packet, PacketType, decode};
+use dccp_packets::{Kind, Number, PacketType};
 use seq_circle::extend;
 use validity_windows::Verdict;
 
@@ -102,11 +103,15 @@ fn place(marks: &Marks, kind: &Kind, number: Option<Seq48>) -> Placement
     }
 }
 
-fn read<C: Congestion>(end: &Endpoint<C>, reader: &Reader, datagram: &[u8]) -> Judgement
+fn read<C: Congestion>(
+    end: &Endpoint<C>,
+    reader: &Reader,
+    datagram: &DecodedDatagram<'_>,
+) -> Judgement
     ensures number { result.number ≡ number_unanswered end.now.state (decoded datagram.now) }
     ensures notice { result.notice ≡ notice_read end.now.state reader.now (decoded datagram.now) }
 {
-    let Ok(packet) = decode(datagram) else {
+    let Ok(packet) = datagram.packet() else {
         return Judgement {
             number: None,
             notice: Notice::none(),
@@ -124,7 +129,11 @@ fn read<C: Congestion>(end: &Endpoint<C>, reader: &Reader, datagram: &[u8]) -> J
 
 /// Whether a Sync would answer a datagram, and what it says about the application that reads this end's data (RFC 4340,
 /// sections 7.5.4, 11.6 and 11.7).
-pub(crate) fn judge<C: Congestion>(end: &Endpoint<C>, reader: &Reader, datagram: &[u8]) -> Judgement
+pub(crate) fn judge<C: Congestion>(
+    end: &Endpoint<C>,
+    reader: &Reader,
+    datagram: &DecodedDatagram<'_>,
+) -> Judgement
     ensures number { result.number ≡ number_judged end.now.state datagram.now }
     ensures notice { result.notice ≡ notice_judged end.now.state reader.now datagram.now }
 {

@@ -2,9 +2,10 @@
 ghost use Rattle.std.specs.Prelude.{◌≡◌, not, is_some};
 
 use crate::alarms::{Alarms, sooner};
+use crate::datagram::DecodedDatagram;
 use crate::reader::restraint_of;
 use crate::rule::{due_rule, obey};
-use crate::syncs::admit;
+use crate::syncs::admit_decoded;
 use crate::{HeardDatagram, Pace, Path, Restraint, Rule, SendRefusal, Sight, Upkeep};
 use dccp_endpoint::{
     AbortFault, CloseFault, Config, Congestion, Endpoint, Feature, NoMemory, OpenFault, Outbox,
@@ -203,22 +204,23 @@ impl<C: Congestion> TimedEnd<C> {
         ensures step { record { timed = self.new; frame = out.new; answer = result } ≡ timed_takes C.control now self.old datagram.now }
         ensures cause { IfSome result (λ outcome. HasCause self.old.end.state datagram.now outcome) }
     {
-        let heard = admit(&self.end, &mut self.upkeep.path, datagram, now);
+        let datagram = DecodedDatagram::new(datagram);
+        let heard = admit_decoded(&self.end, &mut self.upkeep.path, &datagram, now);
         if !heard {
             out.clear();
             return None;
         }
-        Some(self.hear(datagram, now, out))
+        Some(self.hear(&datagram, now, out))
     }
 
     // The end hears a datagram.
-    fn hear(&mut self, datagram: &[u8], now: u64, out: &mut Outbox) -> Outcome
+    fn hear(&mut self, datagram: &DecodedDatagram<'_>, now: u64, out: &mut Outbox) -> Outcome
         requires { length datagram.now ≤ 2044 }
         ensures step { record { timed = self.new; frame = out.new; answer = result } ≡ timed_hears C.control now self.old datagram.now }
         ensures cause { HasCause self.old.end.state datagram.now result }
     {
         let was = Sight::of(&self.end);
-        let outcome = self.end.receive(datagram, out);
+        let outcome = datagram.reach(&mut self.end, out);
         let heard = HeardDatagram::new(was, &outcome, is_silent(out));
         self.upkeep.hear(&heard, &self.end, now);
         outcome

@@ -15,15 +15,15 @@ returns-clause-step g c =
     let control = g.C.Congestion.control in
     let now = c.args.now in
     let s : TimedState _ = record { end = c.self.inside.end; upkeep = c.self.inside.upkeep } in
-    let end = c.receive-outcome.new.self in
-    let frame = c.receive-outcome.new.out in
-    let outcome = c.receive-outcome.result in
+    let end = c.reach-outcome.new.end in
+    let frame = c.reach-outcome.new.out in
+    let outcome = c.reach-outcome.result in
     subst
     (λ (x : TimedState _). record { timed = record { end = end; upkeep = c.hear.new.self }; frame = frame; answer = outcome } ≡ timed_hears control now x c.args.datagram.now)
     c.self.view_is
     (stepped_as end frame outcome (with_control control s.end.congestion (receives s.end.state c.args.datagram.now)) c.hear.new.self
     (λ (x : EndStep _ Outcome). kept_heard control now s.upkeep (heard_so (sight_of control s.end) x.answer (not (is_some x.frame))) x.after)
-    c.receive-outcome.ensures.step
+    c.reach-outcome.ensures.step
     (c.hear.ensures
     ∙ ap (λ (h : HeardDatagram). kept_heard control now s.upkeep h end)
     (c.new-heard.ensures ∙ ap (λ (b : Bool). heard_so c.of-was.result outcome b) c.is_silent.ensures
