@@ -10,7 +10,7 @@ use Rattle.dccp_options.specs.Grammar.{Entry, options_of}
 use Rattle.dccp_options.specs.Kinds as kinds
 use Rattle.dccp_options.specs.declared.option.OptFault.{OptFault}
 use Rattle.dccp_packets.specs.Grammar.{Parts, is_long, packet_type}
-use Rattle.dccp_packets.specs.Kinds.{is_data}
+use Rattle.dccp_packets.specs.Kinds.{is_data, value_of}
 use Rattle.dccp_packets.specs.declared.header.Header.{Header}
 use Rattle.dccp_packets.specs.declared.header.Kind.{Kind}
 use Rattle.dccp_packets.specs.declared.header.Kind.TheVariants.{Request, Response, Data, Ack, DataAck, CloseReq, Close, Reset, Sync, SyncAck}
@@ -24,7 +24,7 @@ use Rattle.bridge_records.specs.declared.pieces.fault.PieceFault.{PieceFault}
 use Rattle.bridge_links.specs.Links.{ip_bytes}
 use Rattle.bridge_command.specs.Judging.{HoldsMalformed, HoldsNone, HoldsPacket, RecordReading, judged_ip}
 use Rattle.bridge_command.specs.Members.{with_list_named, with_number_named, with_text_named, with_truth_named}
-use Rattle.bridge_command.specs.Objects.{destination_text, ecn_of, hops_of, nanoseconds_of, number_written, record_members, source_text, verdict_name, with_ack, with_code, with_header_fields, with_ip, with_judged, with_kind, with_options, with_packet_fields, with_payload, with_ports, with_rest, with_service, with_stamp}
+use Rattle.bridge_command.specs.Objects.{destination_text, ecn_of, hops_of, nanoseconds_of, record_members, source_text, verdict_name, with_ack, with_code, with_header_fields, with_ip, with_judged, with_kind, with_options, with_packet_fields, with_payload, with_ports, with_rest, with_service, with_stamp}
 use Rattle.bridge_command.specs.OptionObjects.{byte_values, drop_block, drop_blocks, feature_values, number_after, number_name, option_members, option_values, vector_run, vector_runs, with_bytes, with_drops, with_echo, with_feature, with_fields, with_number_or_bytes, with_vector}
 use Rattle.bridge_command.specs.Skips.{skip_name}
 use Rattle.bridge_command.specs.Telling.{fault_members}
@@ -181,7 +181,7 @@ ports-kept header = after (numbered (codes "source_port") header.from) (numbered
 
 header-kept : (header : Header) → Keeps (with_header_fields header)
 header-kept header =
-    after (worded (codes "type") (type_name (packet_type header.kind))) (after (numbered (codes "sequence") (number_written header.number))
+    after (worded (codes "type") (type_name (packet_type header.kind))) (after (numbered (codes "sequence") (value_of header.number))
     (after (truth (codes "short") (not (is_long header.number))) (after (numbered (codes "ccval") header.ccval)
     (after (numbered (codes "cscov") header.cscov) (numbered (codes "checksum") header.checksum)))))
 
@@ -191,7 +191,7 @@ code-kept code detail =
     (after (numbered (codes "data_2") (slice_index detail 1)) (numbered (codes "data_3") (slice_index detail 2))))
 
 ack-kept : (ack : Number) → Keeps (with_ack ack)
-ack-kept ack = numbered (codes "acknowledgement") (number_written ack)
+ack-kept ack = numbered (codes "acknowledgement") (value_of ack)
 
 service-kept : (service : ℕ) → Keeps (with_service service)
 service-kept service = numbered (codes "service_code") service

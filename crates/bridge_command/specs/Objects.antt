@@ -6,12 +6,12 @@ use Rattle.hex.specs.Hex.{encode_lower}
 use Rattle.serde_json.specs.Data.{Members, no_members}
 use Rattle.dccp_options.specs.Grammar.{options_of}
 use Rattle.dccp_packets.specs.Grammar.{Parts, is_long, packet_type}
-use Rattle.dccp_packets.specs.Kinds.{is_data}
+use Rattle.dccp_packets.specs.Kinds.{is_data, value_of}
 use Rattle.dccp_packets.specs.declared.header.Header.{Header}
 use Rattle.dccp_packets.specs.declared.header.Kind.{Kind}
 use Rattle.dccp_packets.specs.declared.header.Kind.TheVariants.{Request, Response, Data, Ack, DataAck, CloseReq, Close, Reset, Sync, SyncAck}
 use Rattle.dccp_packets.specs.declared.header.Number.{Number}
-use Rattle.dccp_packets.specs.declared.header.Number.TheVariants.{Long, Short}
+use Rattle.dccp_packets.specs.declared.header.Number.TheVariants.{Long}
 use Rattle.dccp_packets.specs.declared.reading.Malformed.{Malformed}
 use Rattle.dccp_sum.specs.Checksum.{checked}
 use Rattle.dccp_sum.specs.declared.pseudo_header.Pseudo.{Pseudo}
@@ -71,21 +71,16 @@ with_ip there ip members =
 abbrev pub with_ports : Header → Members → Members
 with_ports header members = with_number_named (codes "destination_port") header.to (with_number_named (codes "source_port") header.from members)
 
--- a sequence or acknowledgement number, with as many of its bits as are written
-abbrev pub number_written : Number → ℕ
-number_written (Long n) = n
-number_written (Short n) = n
-
 -- the fields of the generic header (RFC 4340, section 5.1)
 abbrev pub with_header_fields : Header → Members → Members
 with_header_fields header members =
     with_number_named (codes "checksum") header.checksum (with_number_named (codes "cscov") header.cscov (with_number_named (codes "ccval") header.ccval
-    (with_truth_named (codes "short") (not (is_long header.number)) (with_number_named (codes "sequence") (number_written header.number)
+    (with_truth_named (codes "short") (not (is_long header.number)) (with_number_named (codes "sequence") (value_of header.number)
     (with_text_named (codes "type") (type_name (packet_type header.kind)) members)))))
 
 -- the acknowledgement number
 abbrev pub with_ack : Number → Members → Members
-with_ack ack members = with_number_named (codes "acknowledgement") (number_written ack) members
+with_ack ack members = with_number_named (codes "acknowledgement") (value_of ack) members
 
 -- the Service Code
 abbrev pub with_service : ℕ → Members → Members

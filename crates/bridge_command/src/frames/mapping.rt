@@ -5,7 +5,7 @@ ghost use Rattle.bridge_command.specs.Mapping.{moved_ack, moved_header, moved_ki
 
 use dccp_endpoint::Config;
 use dccp_packets::{Header, Kind, Number};
-use seq_circle::{Seq24, Seq48};
+use seq_circle::Seq48;
 use tool_jobs::role_of;
 use world_events::Side;
 
@@ -52,23 +52,14 @@ fn moved_ack(end: &UsualEnd, initial: Seq48, ack: Seq48) -> Seq48
     end.iss.add(initial.distance(ack))
 }
 
-// A short number as one of 48 bits.
-fn in_full(short: Seq24) -> Seq48
-    ensures { result ≡ short }
-{
-    match Seq48::new(u64::from(short.get())) {
-        Some(number) => number,
-        None => unreachable!(),
-    }
-}
-
 fn moved_number(end: &UsualEnd, initial: Seq48, ack: Number) -> Number
     ensures value { result ≡ moved_number end.now initial ack }
     ensures form { is_long result ≡ is_long ack }
 {
+    let moved = moved_ack(end, initial, ack.value());
     match ack {
-        Number::Long(ack) => Number::Long(moved_ack(end, initial, ack)),
-        Number::Short(ack) => Number::Short(moved_ack(end, initial, in_full(ack)).low()),
+        Number::Long(_) => Number::Long(moved),
+        Number::Short(_) => Number::Short(moved.low()),
     }
 }
 

@@ -7,7 +7,7 @@ ghost use Rattle.packet_show.specs.Lines.{parts_by};
 ghost use Rattle.packet_show.specs.Network.{carried_by};
 ghost use Rattle.tool_text.specs.Lines.{is_text};
 ghost use Rattle.bridge_command.specs.Members.{members_seen, with_text_named};
-ghost use Rattle.bridge_command.specs.Objects.{destination_text, ecn_of, hops_of, number_written, source_text, verdict_name, with_ack, with_addresses, with_code, with_header_fields, with_ip, with_kind, with_options, with_packet_fields, with_payload, with_ports, with_rest};
+ghost use Rattle.bridge_command.specs.Objects.{destination_text, ecn_of, hops_of, source_text, verdict_name, with_ack, with_addresses, with_code, with_header_fields, with_ip, with_kind, with_options, with_packet_fields, with_payload, with_ports, with_rest};
 
 use crate::json::objects::{Items, Object};
 use crate::json::options::push_options;
@@ -94,15 +94,6 @@ fn put_ports(object: &mut Object, header: &Header) -> Result<(), NoMemory>
     object.number("destination_port", u64::from(header.to))
 }
 
-fn number_written(number: Number) -> u64
-    ensures { result ≡ number_written number }
-{
-    match number {
-        Number::Long(number) => number.get(),
-        Number::Short(number) => u64::from(number.get()),
-    }
-}
-
 fn is_short(number: Number) -> bool
     ensures { result ≡ not (is_long number) }
 {
@@ -115,7 +106,7 @@ fn put_header(object: &mut Object, header: &Header) -> Result<(), NoMemory>
     ensures { OnOk result (members_seen object.new ≡ with_header_fields header.now (members_seen object.old)) }
 {
     object.text("type", type_name(header.kind.packet_type()))?;
-    object.number("sequence", number_written(header.number))?;
+    object.number("sequence", header.number.value().get())?;
     object.truth("short", is_short(header.number))?;
     object.number("ccval", u64::from(header.ccval))?;
     object.number("cscov", u64::from(header.cscov))?;
@@ -125,7 +116,7 @@ fn put_header(object: &mut Object, header: &Header) -> Result<(), NoMemory>
 fn put_ack(object: &mut Object, ack: Number) -> Result<(), NoMemory>
     ensures { OnOk result (members_seen object.new ≡ with_ack ack (members_seen object.old)) }
 {
-    object.number("acknowledgement", number_written(ack))
+    object.number("acknowledgement", ack.value().get())
 }
 
 // Puts the Reset Code, and Data 1 to 3.
