@@ -102,8 +102,7 @@ fn source(alloc: Global, streams: &Streams, bytes: &[u8]) -> Result<MemorySource
 
 fn sink(alloc: Global, streams: &Streams) -> Result<MemorySink, Fail> {
     let failing = none_or_one(alloc, streams.failing_write)?;
-    let sink = MemorySink::new(alloc, failing, streams.taken, ROOM);
-    Ok(sink.ok().ok_or("no memory")?)
+    Ok(MemorySink::new(alloc, failing, streams.taken, ROOM)?)
 }
 
 // Whether this is all that was reported about an input that is refused: the line, or nothing if there is none.
