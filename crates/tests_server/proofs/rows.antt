@@ -1,4 +1,5 @@
 pub mod RowsFlowInboxes
+pub mod RowsFlowless
 pub mod RowsMeetings
 pub mod RowsPeers
 pub mod RowsServing

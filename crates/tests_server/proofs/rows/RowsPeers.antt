@@ -1,13 +1,23 @@
 -- Rows of what a server knows of its peers, computed from the definitions; the values were worked out by hand.
 use Rattle.std.proofs.Common.{◌≡◌, refl, ℕ, true, false, List, [], ◌∷◌, Some, None}
+use Rattle.std.specs.List.{insert, remove}
+use Rattle.dccp_endpoint.specs.Drafts.{framed}
+use Rattle.dccp_endpoint.specs.Receiving.{receives}
+use Rattle.dccp_endpoint.specs.Usual.{to_server, usual}
 use Rattle.dccp_listener.specs.Peers.{FlowEnd}
 use Rattle.dccp_listener.specs.declared.peer.Peer.{Peer}
+use Rattle.dccp_packets.specs.Outgoing.{bytes_sent}
 use Rattle.dccp_states.specs.declared.phase.Phase.TheVariants as phases
+use Rattle.dccp_states.specs.declared.phase.Role.TheVariants.{Server}
+use Rattle.init_cookies.specs.declared.route.Route.{Route}
 use Rattle.server_peers.specs.Lives.{life_of, lives_on, no_signs}
 use Rattle.server_peers.specs.Naming.{missing_word}
 use Rattle.server_peers.specs.Queues.{shifted}
 use Rattle.server_peers.specs.declared.life.Life.{Life}
 use Rattle.server_peers.specs.declared.queue.Ticket.{Ticket}
+use Rattle.server_peers.specs.Refusals.{refusal_frame, service_opened}
+use Rattle.server_peers.specs.Requests.{asking_of}
+use Rattle.server_peers.specs.declared.asking.DatagramRequest.TheVariants as asking
 
 abbrev peer : Peer
 peer = record { address = 10 ∷ 0 ∷ 0 ∷ 1 ∷ []; port = 40000 }
@@ -45,3 +55,31 @@ how_a_ticket_moves :
     × (shifted three 2 0 (due_at 9) ≡ due_at 9 ∷ due_at 1 ∷ due_at 2 ∷ [])
     × (shifted three 1 1 (due_at 9) ≡ due_at 1 ∷ due_at 9 ∷ due_at 3 ∷ [])
 how_a_ticket_moves = (refl, refl, refl)
+
+-- The usual client's Request with the number 1000, for the service 42, and its Ack 1001 of 2000.
+abbrev pub request : List ℕ
+request = 156 ∷ 64 ∷ 19 ∷ 137 ∷ 5 ∷ 0 ∷ 49 ∷ 236 ∷ 1 ∷ 0 ∷ 0 ∷ 0 ∷ 0 ∷ 0 ∷ 3 ∷ 232 ∷ 0 ∷ 0 ∷ 0 ∷ 42 ∷ []
+
+abbrev pub ack : List ℕ
+ack = 156 ∷ 64 ∷ 19 ∷ 137 ∷ 6 ∷ 0 ∷ 35 ∷ 65 ∷ 7 ∷ 0 ∷ 0 ∷ 0 ∷ 0 ∷ 0 ∷ 3 ∷ 233 ∷ 0 ∷ 0 ∷ 0 ∷ 0 ∷ 0 ∷ 0 ∷ 7 ∷ 208 ∷ []
+
+-- The Request is asked for by its route alone: not from another port, to another, or with another sum; nor by the Ack.
+abbrev by_route : ℕ → ℕ → Route
+by_route from to = record { pseudo = to_server; from = from; to = to }
+
+what_comes_by_its_route :
+    (asking_of 500 7000 (by_route 40000 5001) request ≡ asking.This (record { time = 500; iss = 7000; number = 1000; service = 42; options = [] }))
+    × (asking_of 500 7000 (by_route 40001 5001) request ≡ asking.Nothing) × (asking_of 500 7000 (by_route 40000 5002) request ≡ asking.Nothing)
+    × (asking_of 500 7000 (by_route 40000 5001) (insert (remove request 19) 19 43) ≡ asking.Nothing)
+    × (asking_of 500 7000 (by_route 40000 5001) ack ≡ asking.Nothing)
+what_comes_by_its_route = (refl, refl, refl, refl, refl)
+
+-- What would open gets a Reset with the code that is given, 9 for Too Busy, and the number 0; an Ack gets No Connection, 3 (section 5.6).
+what_is_turned_away :
+    (bytes_sent (refusal_frame 9 (usual Server) request)
+    ≡ Some (19 ∷ 137 ∷ 156 ∷ 64 ∷ 7 ∷ 0 ∷ 25 ∷ 14 ∷ 15 ∷ 0 ∷ 0 ∷ 0 ∷ 0 ∷ 0 ∷ 0 ∷ 0 ∷ 0 ∷ 0 ∷ 0 ∷ 0 ∷ 0 ∷ 0 ∷ 3 ∷ 232 ∷ 9 ∷ 0 ∷ 0 ∷ 0 ∷ []))
+    × (bytes_sent (refusal_frame 9 (usual Server) ack)
+    ≡ Some (19 ∷ 137 ∷ 156 ∷ 64 ∷ 7 ∷ 0 ∷ 23 ∷ 60 ∷ 15 ∷ 0 ∷ 0 ∷ 0 ∷ 0 ∷ 0 ∷ 7 ∷ 209 ∷ 0 ∷ 0 ∷ 0 ∷ 0 ∷ 0 ∷ 0 ∷ 3 ∷ 233 ∷ 3 ∷ 0 ∷ 0 ∷ 0 ∷ []))
+    × (service_opened (usual Server) request ≡ Some 42) × (service_opened (usual Server) ack ≡ None)
+unfolding receives framed
+what_is_turned_away = (refl, refl, refl, refl)
