@@ -23,6 +23,7 @@ use std::alloc::Global;
 
 /// The keys of a server's Init Cookies. Times are in milliseconds, as in each call.
 #[repr(C)]
+#[derive(Drop)]
 pub struct KeyPair {
     /// The key with which they are written.
     pub key: Key,

@@ -12,6 +12,7 @@ use server_peers::keyed_number;
 
 /// The key from which a first number is drawn: 32 bytes that nobody can guess.
 #[repr(C)]
+#[derive(Drop)]
 pub struct Key {
     /// Its bytes.
     pub bytes: [u8; 32],

@@ -8,6 +8,7 @@ use path_rules::Limit;
 
 /// The rules by which a listener makes room and gives flows up. Waits are in milliseconds; 2^64 - 1 means for ever.
 #[repr(C)]
+#[derive(Drop)]
 pub struct FlowRules {
     /// How many bytes this struct has, as its caller knows it.
     pub size: usize,

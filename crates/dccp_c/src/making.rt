@@ -69,6 +69,7 @@ pub struct Care {
 
 /// An end's wish for a feature when the connection starts.
 #[repr(C)]
+#[derive(Drop)]
 pub struct Wish {
     /// The values, best first.
     pub values: [u64; 8],
