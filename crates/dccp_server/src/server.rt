@@ -59,7 +59,7 @@ impl Server {
     ghost use Rattle.dccp_listener.specs.Standing.{IsListening};
     ghost use Rattle.dccp_packets.specs.Grammar.{decoded};
     ghost use Rattle.server_peers.specs.Lives.{life_of};
-    ghost use Rattle.dccp_server.specs.Meeting.{IsMet, cleared, entry_met, entry_without, flow_at, heard_again, hurrying, is_unproved, maker_of, may_meet, needs_no_flow, received_hurrying, reopened, request_at, returned, unreceived_hurrying, unreopened, user_kept};
+    ghost use Rattle.dccp_server.specs.Meeting.{IsMet, cleared, entry_met, entry_without, flow_at, heard_again, hurrying, is_unproved, maker_of, may_meet, needs_no_flow, received_hurrying, reopened, returned, unreceived_hurrying, unreopened, user_kept};
     ghost use Rattle.server_peers.specs.CookieUses.{rekeyed};
     ghost use Rattle.server_peers.specs.Places.{peer_after};
     ghost use Rattle.dccp_server.specs.Refusals.{refused_frame, refused_server};
