@@ -2,7 +2,10 @@
 -- section 11.7, and were worked out by hand.
 use Rattle.std.proofs.Common.{◌≡◌, refl, ℕ, ◌+◌, ◌-◌, zero, suc, Bool, true, false, List, [], ◌∷◌, ◌++◌, replicate, length, drop, map, Option, None, Some, codes}
 use Rattle.data_dropped.specs.Drops.{code_table, drop_byte, drop_bytes, drop_code, most_numbers, tells_all}
-use Rattle.data_dropped.specs.Intakes.{intake_of}
+use Rattle.data_dropped.specs.EndHistory.{EndCalls, EndReceives, EndStops, EndTakes, is_end_stop}
+use Rattle.data_dropped.specs.History.{DataArrive, LongDataArrive, Stops, Takes, is_stop}
+use Rattle.data_dropped.specs.Intakes.{count_held, first_read, intake_of, most_said, read_over}
+use Rattle.dccp_endpoint.specs.Inputs.{Input}
 use Rattle.data_dropped.specs.Inbox.{InboxState, KeptData, after_arrival, arrival_answer, dropping, empty_inbox, first_over, first_taken, fits_item, inbox_of, is_slow, reason, stopping, taking}
 use Rattle.data_dropped.specs.declared.answers.Arrival.{Arrival}
 use Rattle.data_dropped.specs.declared.answers.Arrival.TheVariants.{Kept, Dropped}
@@ -235,3 +238,19 @@ edges_of_an_intake :
     × (intake_of 0 ≡ None)
     × (intake_of 7 ≡ Some (inbox_of 2032 7))
 edges_of_an_intake = (refl, refl, refl, refl)
+
+-- Data of two packets wait. An inbox adds 256 bytes at most: options of 255 and of 1. The first data are read over the front of what is there.
+abbrev two_wait : Option InboxState
+two_wait = Some (record (inbox_of 2032 2) { items = record { number = 7; payload = 1 ∷ 2 ∷ [] } ∷ record { number = 8; payload = 3 ∷ [] } ∷ [] })
+
+what_waits_to_be_read :
+    (most_said None ≡ 0) × (most_said two_wait ≡ 256) × (count_held None ≡ 0) × (count_held two_wait ≡ 2)
+    × (first_read None ≡ None) × (first_read two_wait ≡ Some (7, 2))
+    × (read_over None (9 ∷ 9 ∷ 9 ∷ []) ≡ 9 ∷ 9 ∷ 9 ∷ []) × (read_over two_wait (9 ∷ 9 ∷ 9 ∷ []) ≡ 1 ∷ 2 ∷ 9 ∷ [])
+what_waits_to_be_read = (refl, refl, refl, refl, refl, refl, refl, refl)
+
+-- One call of each kind, and which of them stop: after that the report may say that nobody listens.
+which_calls_stop :
+    (map is_stop (DataArrive 7 [] ∷ LongDataArrive 7 ∷ Takes ∷ Stops ∷ []) ≡ false ∷ false ∷ false ∷ true ∷ [])
+    × ((given : Input) → map is_end_stop (EndCalls given ∷ EndReceives [] ∷ EndTakes ∷ EndStops ∷ []) ≡ false ∷ false ∷ false ∷ true ∷ [])
+which_calls_stop = (refl, λ given. refl)
