@@ -1,7 +1,10 @@
 -- Rows of what a server knows of its peers, computed from the definitions; the values were worked out by hand.
 use Rattle.std.proofs.Common.{◌≡◌, refl, ℕ, true, false, List, [], ◌∷◌, Some, None}
 use Rattle.std.specs.List.{insert, remove}
+use Rattle.ccid_two.specs.Kinds.{at_first, kinds_control}
+use Rattle.dccp_endpoint.specs.Controlled.{begins}
 use Rattle.dccp_endpoint.specs.Drafts.{framed}
+use Rattle.dccp_endpoint.specs.End.{new_end}
 use Rattle.dccp_endpoint.specs.Receiving.{receives}
 use Rattle.dccp_endpoint.specs.Usual.{to_server, usual}
 use Rattle.dccp_listener.specs.Peers.{FlowEnd}
@@ -10,6 +13,7 @@ use Rattle.dccp_packets.specs.Outgoing.{bytes_sent}
 use Rattle.dccp_states.specs.declared.phase.Phase.TheVariants as phases
 use Rattle.dccp_states.specs.declared.phase.Role.TheVariants.{Server}
 use Rattle.init_cookies.specs.declared.route.Route.{Route}
+use Rattle.server_peers.specs.Events.{seen_flow}
 use Rattle.server_peers.specs.Lives.{life_of, lives_on, no_signs}
 use Rattle.server_peers.specs.Naming.{missing_word}
 use Rattle.server_peers.specs.Queues.{shifted}
@@ -83,3 +87,21 @@ what_is_turned_away :
     × (service_opened (usual Server) request ≡ Some 42) × (service_opened (usual Server) ack ≡ None)
 unfolding receives framed
 what_is_turned_away = (refl, refl, refl, refl)
+
+-- The server's end after a Request that gives it Ack Vectors, by Change L of Send Ack Vector to 1, and after the client's Ack.
+abbrev vector_request : List ℕ
+vector_request =
+    156 ∷ 64 ∷ 19 ∷ 137 ∷ 6 ∷ 0 ∷ 10 ∷ 227 ∷ 1 ∷ 0 ∷ 0 ∷ 0 ∷ 0 ∷ 0 ∷ 3 ∷ 232 ∷ 0 ∷ 0 ∷ 0 ∷ 42 ∷ 32 ∷ 4 ∷ 6 ∷ 1 ∷ []
+
+abbrev served_end : List ℕ → FlowEnd
+served_end first =
+    record (begins kinds_control (usual Server) at_first) { state = (receives (receives (new_end (usual Server)) first).after ack).after }
+
+-- An open flow takes data if its Acks have Ack Vectors, and no application that reads holds them back.
+what_a_flow_takes :
+    (seen_flow 7 false (served_end vector_request) ≡ record { phase = phases.Open; takes_data = true; user = 7 })
+    × (seen_flow 7 true (served_end vector_request) ≡ record { phase = phases.Open; takes_data = false; user = 7 })
+    × (seen_flow 7 false (served_end request) ≡ record { phase = phases.Open; takes_data = false; user = 7 })
+    × (seen_flow 7 false (begins kinds_control (usual Server) at_first) ≡ record { phase = phases.Listen; takes_data = false; user = 7 })
+unfolding receives framed
+what_a_flow_takes = (refl, refl, refl, refl)
