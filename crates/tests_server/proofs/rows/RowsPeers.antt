@@ -1,5 +1,5 @@
 -- Rows of what a server knows of its peers, computed from the definitions; the values were worked out by hand.
-use Rattle.std.proofs.Common.{◌≡◌, refl, ℕ, true, false, List, [], ◌∷◌, Some, None}
+use Rattle.std.proofs.Common.{◌≡◌, refl, ℕ, true, false, List, [], ◌∷◌, Some, None, Ok}
 use Rattle.std.specs.List.{insert, remove}
 use Rattle.ccid_two.specs.Kinds.{at_first, kinds_control}
 use Rattle.dccp_endpoint.specs.Controlled.{begins}
@@ -8,8 +8,10 @@ use Rattle.dccp_endpoint.specs.End.{new_end}
 use Rattle.dccp_endpoint.specs.Receiving.{receives}
 use Rattle.dccp_endpoint.specs.Usual.{to_server, usual}
 use Rattle.dccp_listener.specs.Peers.{FlowEnd}
+use Rattle.dccp_listener.specs.Runs.{WasBusy}
+use Rattle.dccp_listener.specs.declared.calls.Heard.TheVariants.{Busy}
 use Rattle.dccp_listener.specs.declared.peer.Peer.{Peer}
-use Rattle.dccp_packets.specs.Outgoing.{bytes_sent}
+use Rattle.dccp_packets.specs.Outgoing.{Outgoing, bytes_sent}
 use Rattle.dccp_states.specs.declared.phase.Phase.TheVariants as phases
 use Rattle.dccp_states.specs.declared.phase.Role.TheVariants.{Server}
 use Rattle.init_cookies.specs.declared.route.Route.{Route}
@@ -21,6 +23,7 @@ use Rattle.server_peers.specs.declared.life.Life.{Life}
 use Rattle.server_peers.specs.declared.queue.Ticket.{Ticket}
 use Rattle.server_peers.specs.Refusals.{refusal_frame, service_opened}
 use Rattle.server_peers.specs.Requests.{asking_of}
+use Rattle.server_peers.specs.Strangers.{frame_if_goes, told_of_arrival}
 use Rattle.server_peers.specs.declared.asking.DatagramRequest.TheVariants as asking
 
 abbrev peer : Peer
@@ -105,3 +108,9 @@ what_a_flow_takes :
     × (seen_flow 7 false (begins kinds_control (usual Server) at_first) ≡ record { phase = phases.Listen; takes_data = false; user = 7 })
 unfolding receives framed
 what_a_flow_takes = (refl, refl, refl, refl)
+
+-- A frame goes out or does not; and what is told of a datagram: nothing if it was left out.
+what_goes_out : (frame : Outgoing) →
+    (frame_if_goes true (Some frame) ≡ Some frame) × (frame_if_goes false (Some frame) ≡ None) × (told_of_arrival (Ok None) ≡ None)
+    × (told_of_arrival (Ok (Some Busy)) ≡ Some WasBusy)
+what_goes_out frame = (refl, refl, refl, refl)
