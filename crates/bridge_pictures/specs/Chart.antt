@@ -47,9 +47,13 @@ column_drawn c column counts happened =
 abbrev pub chart_high : ChartParts → ℕ
 chart_high c = packets_high c.tallest + 14
 
+-- how many packets the tallest bar has
+unfoldable pub tallest_words : ℕ → List ℕ
+tallest_words tallest = codes ": packets of data, up to " ++ decimal tallest
+
 -- what the chart is called, and how many packets its tallest bar has
 unfoldable pub panel_words : List ℕ → ℕ → List ℕ
-panel_words title tallest = title ++ codes ": packets of data, up to " ++ decimal tallest
+panel_words title tallest = title ++ tallest_words tallest
 
 -- these words, above the chart
 unfoldable pub panel : ChartParts → List ℕ → ℕ → List ℕ

@@ -64,12 +64,27 @@ line_begin class from to =
 abbrev pub line : List ℕ → Point → Point → List ℕ → List ℕ
 line class from to words = line_begin class from to ++ title words ++ codes "</line>\n"
 
--- the size of a picture as its view box, and the end of the first line
-abbrev pub view_box : Point → List ℕ
-view_box size = codes " viewBox='0 0 " ++ decimal size.x ++ codes " " ++ decimal size.y ++ codes "'>\n"
+-- the view box, up to its width
+unfoldable pub box_begin : ℕ → List ℕ
+box_begin width = codes " viewBox='0 0 " ++ decimal width
+
+-- the height of the view box, and the end of the first line
+unfoldable pub box_end : ℕ → List ℕ
+box_end height = codes " " ++ decimal height ++ codes "'>\n"
+
+-- the view box
+abbrev pub box_text : Point → List ℕ
+box_text size = box_begin size.x ++ box_end size.y
+
+-- the size of a picture, as its width and height and as the view box
+unfoldable pub size_text : Point → List ℕ
+size_text size =
+    attribute (codes "width") size.x ++ attribute (codes "height") size.y ++ box_text size
+
+-- the beginning of a picture's first line
+unfoldable pub svg_begin : List ℕ
+svg_begin = codes "<svg xmlns='http://www.w3.org/2000/svg' version='1.1'"
 
 -- the first line of a picture of this size
 unfoldable pub front : Point → List ℕ
-front size =
-    codes "<svg xmlns='http://www.w3.org/2000/svg' version='1.1'" ++ attribute (codes "width") size.x ++ attribute (codes "height") size.y
-    ++ view_box size
+front size = svg_begin ++ size_text size

@@ -176,13 +176,47 @@ pub(crate) fn put_line(
     put(text, b"</line>\n")
 }
 
-// Puts the size of a picture as its view box, and the end of the first line.
-fn put_view_box(text: &mut Vec<u8>, size: Point) -> Result<(), NoMemory>
-    ensures { OnOk result (text.new.items ≡ text.old.items ++ spec.view_box size) }
+#[tactic(auto, unfolding(crate::specs::Svg::box_begin))]
+fn put_box_begin(text: &mut Vec<u8>, width: u64) -> Result<(), NoMemory>
+    ensures { OnOk result (text.new.items ≡ text.old.items ++ spec.box_begin width) }
 {
-    put_counted(text, b" viewBox='0 0 ", size.x)?;
-    put_counted(text, b" ", size.y)?;
+    put_counted(text, b" viewBox='0 0 ", width)
+}
+
+#[tactic(auto, unfolding(crate::specs::Svg::box_end))]
+fn put_box_end(text: &mut Vec<u8>, height: u64) -> Result<(), NoMemory>
+    ensures { OnOk result (text.new.items ≡ text.old.items ++ spec.box_end height) }
+{
+    put_counted(text, b" ", height)?;
     put(text, b"'>\n")
+}
+
+// Puts the view box.
+fn put_box(text: &mut Vec<u8>, size: Point) -> Result<(), NoMemory>
+    ensures { OnOk result (text.new.items ≡ text.old.items ++ spec.box_text size) }
+{
+    put_box_begin(text, size.x)?;
+    put_box_end(text, size.y)
+}
+
+// Puts the size of a picture, as its width and height and as the view box.
+#[tactic(auto, unfolding(crate::specs::Svg::size_text))]
+fn put_size(text: &mut Vec<u8>, size: Point) -> Result<(), NoMemory>
+    ensures { OnOk result (text.new.items ≡ text.old.items ++ spec.size_text size) }
+{
+    put_attribute(text, b"width", size.x)?;
+    put_attribute(text, b"height", size.y)?;
+    put_box(text, size)
+}
+
+#[tactic(auto, unfolding(crate::specs::Svg::svg_begin))]
+fn put_svg_begin(text: &mut Vec<u8>) -> Result<(), NoMemory>
+    ensures { OnOk result (text.new.items ≡ text.old.items ++ spec.svg_begin) }
+{
+    put(
+        text,
+        b"<svg xmlns='http://www.w3.org/2000/svg' version='1.1'",
+    )
 }
 
 /// Puts the first line of a picture of this size.
@@ -190,11 +224,6 @@ fn put_view_box(text: &mut Vec<u8>, size: Point) -> Result<(), NoMemory>
 pub(crate) fn put_front(text: &mut Vec<u8>, size: Point) -> Result<(), NoMemory>
     ensures { OnOk result (text.new.items ≡ text.old.items ++ spec.front size) }
 {
-    put(
-        text,
-        b"<svg xmlns='http://www.w3.org/2000/svg' version='1.1'",
-    )?;
-    put_attribute(text, b"width", size.x)?;
-    put_attribute(text, b"height", size.y)?;
-    put_view_box(text, size)
+    put_svg_begin(text)?;
+    put_size(text, size)
 }

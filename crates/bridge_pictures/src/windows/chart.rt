@@ -7,7 +7,7 @@ use crate::windows::bars::{EDGE, packets_high, put_bar, put_downward, put_group_
 use seq_circle::NoMemory;
 use std::alloc::Global;
 use std::marker::Model;
-use tool_text::{put, put_counted, put_number};
+use tool_text::{put, put_counted};
 
 // A chart has this much room above its tallest bar.
 const ROOM: u64 = 14;
@@ -46,14 +46,21 @@ fn put_column_words(text: &mut Vec<u8>, words: &[u8], counts: Counts) -> Result<
     put_counted(text, b" flight ", u64::from(counts.flight))
 }
 
+// Puts how many packets the tallest bar has.
+#[tactic(auto, unfolding(crate::specs::Chart::tallest_words))]
+fn put_tallest(text: &mut Vec<u8>, tallest: u32) -> Result<(), NoMemory>
+    ensures { OnOk result (text.new.items ≡ text.old.items ++ spec.tallest_words tallest) }
+{
+    put_counted(text, b": packets of data, up to ", u64::from(tallest))
+}
+
 // Puts what a chart is called, and how many packets its tallest bar has.
 #[tactic(auto, unfolding(crate::specs::Chart::panel_words))]
 fn put_panel_words(text: &mut Vec<u8>, name: &[u8], tallest: u32) -> Result<(), NoMemory>
     ensures { OnOk result (text.new.items ≡ text.old.items ++ spec.panel_words name.now tallest) }
 {
     put(text, name)?;
-    put(text, b": packets of data, up to ")?;
-    put_number(text, u64::from(tallest))
+    put_tallest(text, tallest)
 }
 
 // Puts the line below the bars.
