@@ -49,7 +49,7 @@ def chain_of(needed, weight):
 
 
 # From how many processor seconds on a crate of the longest chain is proved with nothing beside.
-HEAVY = 300
+HEAVY = 250
 
 
 def heaviest_of(needed, seconds):
@@ -78,11 +78,11 @@ MEMORY = 4 * 2**30
 
 
 def lanes_beside():
-    """Returns how many crates are proved beside a heavy one: one more than it leaves processors, since it does not use its own all the time, if
-    memory allows. rt gives a crate that nothing else is ready beside half of the processors, at least one and at most four."""
+    """Returns how many crates are proved beside a heavy one: as many as it leaves processors, if memory allows. rt gives a crate that nothing
+    else is ready beside half of the processors, at least one and at most four."""
     processors, memory = os.cpu_count() or 1, os.sysconf("SC_PAGE_SIZE") * os.sysconf("SC_PHYS_PAGES")
     taken = max(1, min(4, processors // 2))
-    return max(0, min(processors - taken + 1, memory // MEMORY - taken))
+    return max(0, min(processors - taken, memory // MEMORY - taken))
 
 
 def minutes_left(needed, proved, seconds):
