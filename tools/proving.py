@@ -49,7 +49,7 @@ def chain_of(needed, weight):
 
 
 # From how many processor seconds on a crate of the longest chain is proved with nothing beside.
-HEAVY = 250
+HEAVY = 200
 
 
 def heaviest_of(needed, seconds):
