@@ -78,10 +78,10 @@ pub fn side_from(ends: &FlowEnds, from: FlowEnd) -> Side
     ensures { result ≡ spec.side_from ends.now from }
 {
     let by_first = from.0 == ends.first.0 && from.1 == ends.first.1;
-    match (by_first, ends.is_client) {
-        (true, true) | (false, false) => Side::Client,
-        (true, false) | (false, true) => Side::Server,
+    if by_first == ends.is_client {
+        return Side::Client;
     }
+    Side::Server
 }
 
 /// A record as it is after `unwrap`, which finds this IP packet in it.
