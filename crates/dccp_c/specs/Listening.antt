@@ -265,7 +265,11 @@ abbrev pub duty_code : Option Duty → ℕ
 duty_code None = 12
 duty_code (Some (Ring peer timer)) = 0
 duty_code (Some (Follow peer rules.GiveUp)) = 19
-duty_code (Some (Follow peer _)) = 0
+duty_code (Some (Follow peer rules.Nothing)) = 0
+duty_code (Some (Follow peer rules.TimeOut)) = 0
+duty_code (Some (Follow peer rules.Probe)) = 0
+duty_code (Some (Follow peer rules.Ask)) = 0
+duty_code (Some (Follow peer rules.Ratio)) = 0
 duty_code (Some (GiveUp peer)) = 19
 
 -- the peer of a duty, as C gets it
