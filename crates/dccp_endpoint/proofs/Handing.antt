@@ -1,5 +1,5 @@
 -- What is handed to the congestion control, in order; and the values that go with it fit.
-use Rattle.std.proofs.Common.{◌≡◌, ◌<◌, ◌^◌, ◌++◌, ◌==◌, ℕ, true, List, [], refl, sym, ap, ◌∙◌, subst, append-nil, eq-eqb}
+use Rattle.std.proofs.Common.{◌≡◌, ◌<◌, ◌^◌, ◌++◌, ℕ, true, List, [], refl, sym, ap, ◌∙◌, subst, append-nil, eq-eqb}
 use Rattle.congestion_trait.specs.Calls.{Call}
 use Rattle.congestion_trait.specs.Control.{Control}
 use Rattle.feature_lists.specs.Features.{described}

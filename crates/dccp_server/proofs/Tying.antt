@@ -250,7 +250,7 @@ pub place_there_if : {V : Type 0} (found : Option FlowEnd) (e : FlowEnd) (kept :
     → IsSome (lookup (is_peer peer) kept)
 place_there_if {V} found e kept peer is has = subst (λ (x : Option FlowEnd). HasPlaceIf x kept peer) is has
 
--- a call makes no end, so whoever has one after it has a place
+-- a call makes no end, so a peer that has one after it has a place
 call-place : (l : ListenerState) (kept : Upkeeps) (peer : Peer) (found : Option FlowEnd) (call : FlowCall) → end_of_peer l.flows peer ≡ found
     → HasPlaceIf found kept peer → HasPlaceIf (end_of_peer (listening_after l peer (Calls call)).flows peer) kept peer
 call-place l kept peer None call is has =

@@ -1,4 +1,4 @@
-use Rattle.std.proofs.Common.{◌≡◌, ◌∙◌, ap, sym, ℕ, Result}
+use Rattle.std.proofs.Common.{◌∙◌, ap, sym, ℕ, Result}
 use Rattle.ccid_two.specs.Kinds.{Both}
 use Rattle.dccp_states.specs.declared.calls.UserCall.{UserCall}
 use Rattle.dccp_listener.specs.Chain.{asked}
