@@ -3,7 +3,7 @@ pub mod Classes
 mod NextPeer
 pub mod Ordered
 pub mod Placing
-mod Shifting
 mod StandIns
+mod TicketNumbers
 pub mod Tickets
 mod Writing

@@ -1,8 +1,6 @@
 -- Lists of keys in strict order: where a binary search leads, and what an edit there makes.
-use Rattle.std.proofs.Common.{◌≡◌, ◌≢◌, refl, sym, ap, ◌∙◌, subst, ℕ, zero, suc, ◌+◌, ◌-◌, ◌≤◌, ◌<◌, nat_lt, Bool, true, false, cond, if◌then◌else◌, not, ◌&&◌, T, List, [], ◌∷◌, length, get_or, inl, inr, Result, Ok, Err, Ordering, Less, Equal, Greater, is_eq, is_lt, arith}
-use Rattle.std.proofs.lemmas.Bool.{cases_lt}
-use Rattle.std.proofs.lemmas.Bool.Decides.{nat_tests}
-use Rattle.std.proofs.lemmas.List.Edits.{get_or-remove_above, get_or-remove_below, length-remove}
+use Rattle.std.proofs.Common.{◌≡◌, ◌≢◌, refl, sym, ap, ◌∙◌, subst, ℕ, zero, suc, ◌≤◌, ◌<◌, Bool, true, false, cond, not, ◌&&◌, T, List, [], ◌∷◌, length, get_or, inl, inr, Result, Ok, Err, Ordering, Less, Equal, Greater, is_eq, is_lt, arith, IsSome, Option, Some, None}
+use Rattle.std.proofs.lemmas.Bool.{cases_lt, false≢true}
 use Rattle.std.specs.BTreeSet.{insert_key}
 use Rattle.std.specs.Cmp.{IsTotalOrder}
 use Rattle.std.proofs.lemmas.Cmp.{alike_right}
@@ -11,6 +9,7 @@ use Rattle.std.specs.List.{filter, insert, remove}
 use Rattle.std.specs.List.Sorted.{IsBinarySearchResult, IsNonDecreasingBy, IsSearchInRange}
 use Rattle.std.specs.Map.{keys_of}
 use Rattle.std.specs.Ordering.{match_ordering, ordering_index, ordering_reverse}
+use Rattle.std.specs.Prelude.{OnErr, OnOk, OnSome}
 use Rattle.std.specs.Result.{MatchResult}
 use Rattle.server_peers.specs.Queues.{paired}
 
@@ -26,6 +25,16 @@ pub less_from : (o : Ordering) → T (is_lt o) → o ≡ Less
 less_from Less p = refl
 less_from Equal p = absurd p
 less_from Greater p = absurd p
+
+-- an insertion succeeds where there is room
+pub inserted : {X Y : Type 0} {P : Type 0} {n room : ℕ} (r : Result X Y) → OnOk r P → OnErr r (room ≤ n) → n < room → P
+inserted (Ok x) items full lt = items
+inserted (Err e) items full lt = absurd (omega (arith, full, lt))
+
+-- and a removal where there is something
+pub removed : {X : Type 0} {P : Type 0} (r : Option X) → OnSome r P → IsSome r → P
+removed None items there = absurd (false≢true there)
+removed (Some x) items there = items
 
 index-by : (a b : Ordering) → (b ≡ Less → a ≡ Less) → (b ≡ Equal → a ≡ Less) → ordering_index a ≤ ordering_index b
 index-by a Less f g = omega (arith, ap ordering_index (f refl))
@@ -166,27 +175,3 @@ module _ {K : Type 0} where
       taking (Err i) within parted =
           sym (all_kept (λ x. not (is_eq (R k x))) ks
           (λ j d lt. ap not (one-side-by i j d (λ j d past. (parted rises).0 j d (omega arith) past) (λ j d from lt. (parted rises).1 j d from lt) lt)))
-
-    module _ (o : IsTotalOrder R) (ks : List K) (h : T (is_sorted R (paired ks))) (from to : K) (i j : ℕ) (lt : i < length ks) (here : IsBinarySearchResult (λ y. R y from) ks (Ok i))
-        (le : j ≤ length ks) (parted : IsBinarySearchResult (λ y. R y to) ks (Err j)) where
-      before : (k : ℕ) (d : K) → k < j → R to (get_or ks k d) ≡ Greater
-      before k d past = turned o to ks h (get_or ks k d) Less ((parted (rises o to ks h)).0 k d (omega arith) past)
-
-      after : (k : ℕ) (d : K) → j ≤ k → k < length ks → R to (get_or ks k d) ≡ Less
-      after k d past within = turned o to ks h (get_or ks k d) Greater ((parted (rises o to ks h)).1 k d past within)
-
-      -- one key goes, and another gets its place, p in what is left
-      pub shifting : (p : ℕ) → p ≡ (if nat_lt i j then j - 1 else j) → insert (remove ks i) p to ≡ insert_key R (filter (λ x. not (is_eq (R from x))) ks) to
-      shifting p is =
-          put_here to (remove ks i) p (grind (arith, nat_tests, is, lt, le, length-remove ks i lt))
-          (λ k d past. elim (cases_lt k i) [
-            | inl low ↦ ap (R to) (get_or-remove_below ks i d k low lt) ∙ before k d (grind (arith, nat_tests, is, past))
-            | inr high ↦ ap (R to) (get_or-remove_above ks i d k high lt) ∙ before (k + 1) d (grind (arith, nat_tests, is, past, high))
-          ])
-          (λ k d past within. elim (cases_lt k i) [
-            | inl low ↦ ap (R to) (get_or-remove_below ks i d k low lt) ∙ after k d (grind (arith, nat_tests, is, past, low)) (omega (arith, low, lt))
-            | inr high ↦
-                ap (R to) (get_or-remove_above ks i d k high lt)
-                ∙ after (k + 1) d (grind (arith, nat_tests, is, past, high)) (omega (arith, within, length-remove ks i lt))
-          ])
-          ∙ ap (λ (l : List K). insert_key R l to) (taking o from ks h (Ok i) lt here)

@@ -1,13 +1,13 @@
 -- Packets between addresses of the same sum read alike, and a stand-in has the sum of its peer's path.
-use Rattle.std.proofs.Common.{◌≡◌, refl, sym, ap, ◌∙◌, ℕ, ◌+◌, ◌-◌, ◌*◌, ◌/◌, ◌%◌, ◌<◌, ◌≤◌, ◌^◌, List, ◌++◌, length, take, Option, Some, None, arith, rules}
+use Rattle.std.proofs.Common.{◌≡◌, refl, sym, ap, ◌∙◌, ℕ, ◌+◌, ◌-◌, ◌/◌, ◌%◌, ◌<◌, ◌^◌, List, ◌++◌, length, take, Option, Some, None, arith, rules}
 use Rattle.byteorder.specs.Endian.{big_bytes}
-use Rattle.dccp_sum.specs.Checksum.{checked, checked_over, checksum, pseudo_header, same_checksum, sealed, sealed_over, stated, summed, with_checksum}
+use Rattle.dccp_sum.specs.Checksum.{checked_over, checksum, pseudo_header, sealed_over, summed, with_checksum}
 use Rattle.dccp_sum.specs.Coverage.{covered}
 use Rattle.dccp_sum.specs.Words.{IsSameSum, ones_complement, word_sum}
 use Rattle.dccp_sum.specs.declared.pseudo_header.Pseudo.{Pseudo}
 use Rattle.dccp_sum.specs.declared.pseudo_header.Pseudo.TheVariants.{V4, V6}
 use Rattle.dccp_sum.proofs.Sums.{length-pseudo_header_v4, length-pseudo_header_v6, ones_complement-same, word_sum-append, word_sum-v4, word_sum-v6}
-use Rattle.server_peers.specs.Naming.{EqualSumsReadAlike, IsSized, StandInsCountAlike, address_words, missing_word, stand_in}
+use Rattle.server_peers.specs.Naming.{EqualSumsReadAlike, IsSized, StandInsCountAlike, address_words, missing_word}
 
 -- the words of a pseudo-header
 header-words : (pseudo : Pseudo) (size : ℕ) → IsSized pseudo → size < 2 ^ 16

@@ -1,9 +1,10 @@
 -- The tickets of peers: the order in which something is due for what is kept of them (own).
-use Rattle.std.specs.Prelude.{◌≡◌, ◌≤◌, ◌<◌, ◌==◌, ◌-◌, nat_lt, ℕ, true, false, not, List, [], ◌∷◌, Option, Some, None, T, length, if◌then◌else◌}
+use Rattle.std.specs.Prelude.{◌≡◌, ◌≤◌, ◌<◌, ◌==◌, ◌/◌, ◌%◌, ◌^◌, nat_lt, ℕ, true, false, not, List, [], ◌∷◌, Option, Some, None, T, length, map, if◌then◌else◌}
 use Rattle.std.specs.BTreeMap.{is_at}
 use Rattle.std.specs.BTreeSet.{insert_key}
 use Rattle.std.specs.FinMap.Entries.{is_sorted}
-use Rattle.std.specs.List.{filter, insert, remove}
+use Rattle.std.specs.Int.{to_be_bytes, w32}
+use Rattle.std.specs.List.{filter}
 use Rattle.std.specs.List.Sorted.{IsPartitionPoint, IsStrictlySortedBy}
 use Rattle.std.specs.Map.{keys_of}
 use Rattle.std.specs.Ordering.{nat_cmp, ordering_then}
@@ -20,6 +21,20 @@ ticket_cmp a b = ordering_then (nat_cmp a.class b.class) (ordering_then (nat_cmp
 abbrev pub ticket : ℕ × ℕ → Peer → Ticket
 ticket moment peer = record { class = moment.0; time = moment.1; peer = peer }
 
+-- A number as a ticket: its low 16 bits are the port, then come 32 of the address, 64 of the time, and the class. Numbers are in the order of
+-- their tickets.
+abbrev pub ticket_at : ℕ → Ticket
+ticket_at n =
+    record {
+      class = n / 2 ^ 48 / 2 ^ 64;
+      time = n / 2 ^ 48 % 2 ^ 64;
+      peer = record { address = to_be_bytes w32 (n % 2 ^ 48 / 65536); port = n % 2 ^ 48 % 65536 };
+    }
+
+-- the tickets of numbers
+abbrev pub tickets_at : List ℕ → List Ticket
+tickets_at numbers = map ticket_at numbers
+
 -- the queue with the ticket of a peer, if it has a moment
 abbrev pub queued : Option (ℕ × ℕ) → Peer → List Ticket → List Ticket
 queued None peer queue = queue
@@ -28,10 +43,6 @@ queued (Some moment) peer queue = insert_key ticket_cmp queue (ticket moment pee
 -- all tickets except this one
 abbrev pub without : Ticket → List Ticket → List Ticket
 without it queue = filter (λ other. not (is_at (ticket_cmp it) other)) queue
-
--- the ticket at one place goes, and another gets a place, which is counted while the first is there
-abbrev pub shifted : List Ticket → ℕ → ℕ → Ticket → List Ticket
-shifted queue at place it = insert (remove queue at) (if nat_lt at place then place - 1 else place) it
 
 -- the queue without the ticket of a peer
 abbrev pub unqueued : Option (ℕ × ℕ) → Peer → List Ticket → List Ticket

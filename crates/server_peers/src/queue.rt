@@ -1,21 +1,16 @@
 //! The tickets of peers: the order in which something is due for what is kept of them.
-ghost use Rattle.std.specs.Prelude.{◌≡◌, ◌<◌, ◌≤◌, length, true, vec_capacity};
-ghost use Rattle.std.proofs.Common.{rules};
+ghost use Rattle.std.specs.Prelude.{◌≡◌, ◌<◌, ◌≤◌, length, true};
 ghost use Rattle.std.specs.BTreeSet.{insert_key};
-ghost use Rattle.std.proofs.lemmas.Cmp.{nat_cmp_total, on_total, then_total};
-ghost use Rattle.std.specs.Cmp.{partial_order_from_own_ties, partial_order_from_total};
-ghost use Rattle.dccp_listener.proofs.OnePeer.{peers_total};
-ghost use Rattle.std.specs.Cmp.Lexicographic.{slice_cmp};
-ghost use Rattle.std.specs.Cmp.Rules.{comparing};
-ghost use Rattle.std.specs.Ordering.{as_partial_cmp, nat_cmp, on, then_cmp};
-ghost use Rattle.server_peers.specs.Queues.{AreTicketsInOrder, BeginsAt, count_in, first_in, of_class, queued, shifted, ticket, ticket_cmp, unqueued, without};
+ghost use Rattle.std.specs.VecDeque.{deque_capacity};
+ghost use Rattle.dccp_listener.specs.Numbers.{AreDigits};
+ghost use Rattle.server_peers.specs.Queues.{AreTicketsInOrder, BeginsAt, count_in, first_in, of_class, queued, ticket, ticket_at, ticket_cmp, tickets_at, unqueued, without};
 
 use dccp_listener::Peer;
-use std::cmp::Ordering;
+use std::collections::VecDeque;
 
 /// The ticket of a peer: the time at which something of this class is due (own). Tickets are ordered by class, then by
-/// time, then by peer. The order of the fields makes a ticket 16 bytes.
-#[derive(Clone, Copy, PartialEq, Eq)]
+/// time, then by peer.
+#[derive(Clone, Copy)]
 pub struct Ticket {
     /// The time, in milliseconds.
     pub time: u64,
@@ -25,38 +20,47 @@ pub struct Ticket {
     pub class: u8,
 }
 
-impl Ord for Ticket {
-    ghost cmp = { then_cmp (on (λ t. t.class) nat_cmp) (then_cmp (on (λ t. t.time) nat_cmp) (on (λ t. t.peer) (then_cmp (on (λ p. p.address) (slice_cmp nat_cmp)) (on (λ p. p.port) nat_cmp)))) };
+/// How many peers there are, by address and port.
+const PEERS: u128 = 0x1_0000_0000_0000;
+/// How many times there are.
+const TIMES: u128 = 0x1_0000_0000_0000_0000;
 
-    ghost total = { then_total (on_total (λ t. t.class) nat_cmp_total) (then_total (on_total (λ t. t.time) nat_cmp_total) (on_total (λ t. t.peer) peers_total)) };
-
-    ghost matches_partial_cmp = { Prim.search (comparing, rules) };
-
-    ghost matches_eq = { Prim.search (comparing, rules) };
-
-    fn cmp(&self, other: &Ticket) -> Ordering {
-        let by_peer = self.peer.cmp(&other.peer);
-        let by_time = self.time.cmp(&other.time).then(by_peer);
-        self.class.cmp(&other.class).then(by_time)
-    }
+// The ticket of a peer as one number. Numbers are in the order of tickets.
+fn number_of(moment: (u8, u64), peer: Peer) -> u128
+    ensures digits { AreDigits peer.address peer.port }
+    ensures ticket { ticket_at result ≡ ticket moment peer }
+{
+    let (class, time) = moment;
+    let address = u32::from_be_bytes(peer.address);
+    let place = address as u128 * 65_536 + peer.port as u128;
+    (class as u128 * TIMES + time as u128) * PEERS + place
 }
 
-impl PartialOrd for Ticket {
-    ghost partial_cmp = { as_partial_cmp (then_cmp (on (λ t. t.class) nat_cmp) (then_cmp (on (λ t. t.time) nat_cmp) (on (λ t. t.peer) (then_cmp (on (λ p. p.address) (slice_cmp nat_cmp)) (on (λ p. p.port) nat_cmp))))) };
-
-    ghost laws = { partial_order_from_own_ties (partial_order_from_total (then_total (on_total (λ t. t.class) nat_cmp_total) (then_total (on_total (λ t. t.time) nat_cmp_total) (on_total (λ t. t.peer) peers_total)))) (Prim.search (comparing, rules)) };
-
-    fn partial_cmp(&self, other: &Ticket) -> Option<Ordering> {
-        Some(self.cmp(other))
+// The ticket of a number, if it is of a class.
+fn of_class(number: u128, class: u8) -> Option<Ticket>
+    ensures { result ≡ of_class class (ticket_at number) }
+{
+    let moment = number / PEERS;
+    if moment / TIMES != class as u128 {
+        return None;
     }
+    let place = number % PEERS;
+    Some(Ticket {
+        time: (moment % TIMES) as u64,
+        peer: Peer {
+            address: ((place / 65_536) as u32).to_be_bytes(),
+            port: (place % 65_536) as u16,
+        },
+        class,
+    })
 }
 
 // Puts a ticket in its place, unless it is there.
-fn put(tickets: &mut Vec<Ticket>, ticket: Ticket)
-    requires order { AreTicketsInOrder tickets.old.items }
-    requires room { length tickets.old.items < vec_capacity tickets.old }
-    ensures put { tickets.new.items ≡ insert_key ticket_cmp tickets.old.items ticket }
-    ensures room { vec_capacity tickets.old ≤ vec_capacity tickets.new }
+fn put(tickets: &mut VecDeque<u128>, ticket: u128)
+    requires order { AreTicketsInOrder (tickets_at tickets.old.items) }
+    requires room { length (tickets_at tickets.old.items) < deque_capacity tickets.old }
+    ensures put { tickets_at tickets.new.items ≡ insert_key ticket_cmp (tickets_at tickets.old.items) (ticket_at ticket) }
+    ensures room { deque_capacity tickets.old ≤ deque_capacity tickets.new }
 {
     if let Err(at) = tickets.binary_search(&ticket) {
         let _ = tickets.insert(at, ticket);
@@ -64,46 +68,23 @@ fn put(tickets: &mut Vec<Ticket>, ticket: Ticket)
 }
 
 // Removes a ticket, if it is there.
-fn take(tickets: &mut Vec<Ticket>, ticket: Ticket)
-    requires { AreTicketsInOrder tickets.old.items }
-    ensures taken { tickets.new.items ≡ without ticket tickets.old.items }
-    ensures room { vec_capacity tickets.old ≤ vec_capacity tickets.new }
+fn take(tickets: &mut VecDeque<u128>, ticket: u128)
+    requires { AreTicketsInOrder (tickets_at tickets.old.items) }
+    ensures taken { tickets_at tickets.new.items ≡ without (ticket_at ticket) (tickets_at tickets.old.items) }
+    ensures room { deque_capacity tickets.old ≤ deque_capacity tickets.new }
 {
     if let Ok(at) = tickets.binary_search(&ticket) {
         let _ = tickets.remove(at);
     }
 }
 
-// The ticket at one place goes, and another gets a place: only the tickets between both move.
-fn shift(tickets: &mut Vec<Ticket>, at: usize, place: usize, ticket: Ticket)
-    requires there { at < length tickets.old.items }
-    requires within { place ≤ length tickets.old.items }
-    ensures shifted { tickets.new.items ≡ shifted tickets.old.items at place ticket }
-    ensures room { vec_capacity tickets.new ≡ vec_capacity tickets.old }
-{
-    if at < place {
-        let last = place - 1;
-        tickets.copy_within(at + 1..place, at);
-        tickets[last] = ticket;
-    } else {
-        tickets.copy_within(place..at, place + 1);
-        tickets[place] = ticket;
-    }
-}
-
 // A ticket goes, if it is there, and another gets its place, unless it is there.
-fn replace(tickets: &mut Vec<Ticket>, from: Ticket, to: Ticket)
-    requires order { AreTicketsInOrder tickets.old.items }
-    requires room { length tickets.old.items < vec_capacity tickets.old }
-    ensures replaced { tickets.new.items ≡ insert_key ticket_cmp (without from tickets.old.items) to }
-    ensures room { vec_capacity tickets.old ≤ vec_capacity tickets.new }
+fn replace(tickets: &mut VecDeque<u128>, from: u128, to: u128)
+    requires order { AreTicketsInOrder (tickets_at tickets.old.items) }
+    requires room { length (tickets_at tickets.old.items) < deque_capacity tickets.old }
+    ensures replaced { tickets_at tickets.new.items ≡ insert_key ticket_cmp (without (ticket_at from) (tickets_at tickets.old.items)) (ticket_at to) }
+    ensures room { deque_capacity tickets.old ≤ deque_capacity tickets.new }
 {
-    if let Ok(at) = tickets.binary_search(&from) {
-        if let Err(place) = tickets.binary_search(&to) {
-            shift(tickets, at, place, to);
-            return;
-        }
-    }
     take(tickets, from);
     put(tickets, to);
 }
@@ -121,78 +102,63 @@ pub(crate) fn is_one_moment(from: Option<(u8, u64)>, to: Option<(u8, u64)>) -> b
 
 /// Moves the ticket of a peer from one moment to another, if it had one and has one.
 pub(crate) fn requeue(
-    tickets: &mut Vec<Ticket>,
+    tickets: &mut VecDeque<u128>,
     peer: Peer,
     was: Option<(u8, u64)>,
     next: Option<(u8, u64)>,
 )
-    requires order { AreTicketsInOrder tickets.old.items }
-    requires room { length tickets.old.items < vec_capacity tickets.old }
-    ensures moved { tickets.new.items ≡ queued next peer (unqueued was peer tickets.old.items) }
-    ensures room { vec_capacity tickets.old ≤ vec_capacity tickets.new }
+    requires order { AreTicketsInOrder (tickets_at tickets.old.items) }
+    requires room { length (tickets_at tickets.old.items) < deque_capacity tickets.old }
+    ensures moved { tickets_at tickets.new.items ≡ queued next peer (unqueued was peer (tickets_at tickets.old.items)) }
+    ensures room { deque_capacity tickets.old ≤ deque_capacity tickets.new }
 {
     match (was, next) {
         (Some(from), Some(to)) => {
-            replace(tickets, ticket_at(from, peer), ticket_at(to, peer));
+            replace(tickets, number_of(from, peer), number_of(to, peer));
         }
-        (Some(from), None) => take(tickets, ticket_at(from, peer)),
-        (None, Some(to)) => put(tickets, ticket_at(to, peer)),
+        (Some(from), None) => take(tickets, number_of(from, peer)),
+        (None, Some(to)) => put(tickets, number_of(to, peer)),
         (None, None) => {}
     }
 }
 
-fn ticket_at(moment: (u8, u64), peer: Peer) -> Ticket
-    ensures { result ≡ ticket moment peer }
-{
-    let (class, time) = moment;
-    Ticket { class, time, peer }
-}
-
-fn of_class(ticket: &Ticket, class: u8) -> Option<Ticket>
-    ensures { result ≡ of_class class ticket.now }
-{
-    if ticket.class == class {
-        return Some(*ticket);
-    }
-    None
-}
-
 // How many tickets come before those of a class. Most often all tickets are of one class, which the first and the last
 // of the queue show.
-fn front(tickets: &[Ticket], class: u16) -> usize
-    requires { AreTicketsInOrder tickets.now }
-    ensures begins { BeginsAt class tickets.now result }
-    ensures within { result ≤ length tickets.now }
+fn front(tickets: &VecDeque<u128>, class: u16) -> usize
+    requires { AreTicketsInOrder (tickets_at tickets.now.items) }
+    ensures begins { BeginsAt class (tickets_at tickets.now.items) result }
+    ensures within { result ≤ length tickets.now.items }
 {
+    let least = class as u128 * TIMES * PEERS;
     let count = tickets.len();
     if count == 0 {
         return 0;
     }
-    if class <= tickets[0].class as u16 {
+    if least <= tickets[0] {
         return 0;
     }
-    if (tickets[count - 1].class as u16) < class {
+    if tickets[count - 1] < least {
         return count;
     }
-    tickets.partition_point(|ticket| (ticket.class as u16) < class)
+    tickets.partition_point(|ticket| *ticket < least)
 }
 
 /// The first ticket of a class.
-pub(crate) fn first_in(tickets: &[Ticket], class: u8) -> Option<Ticket>
-    requires { AreTicketsInOrder tickets.now }
-    ensures { result ≡ first_in class tickets.now }
+pub(crate) fn first_in(tickets: &VecDeque<u128>, class: u8) -> Option<Ticket>
+    requires { AreTicketsInOrder (tickets_at tickets.now.items) }
+    ensures { result ≡ first_in class (tickets_at tickets.now.items) }
 {
     let at = front(tickets, class as u16);
     match tickets.get(at) {
-        Some(ticket) => of_class(ticket, class),
+        Some(ticket) => of_class(*ticket, class),
         None => None,
     }
 }
 
 /// How many tickets of a class there are.
-pub(crate) fn count_in(tickets: &[Ticket], class: u8) -> usize
-    requires { AreTicketsInOrder tickets.now }
-    ensures { result ≡ count_in class tickets.now }
+pub(crate) fn count_in(tickets: &VecDeque<u128>, class: u8) -> usize
+    requires { AreTicketsInOrder (tickets_at tickets.now.items) }
+    ensures { result ≡ count_in class (tickets_at tickets.now.items) }
 {
     let class = class as u16;
     let first = front(tickets, class);

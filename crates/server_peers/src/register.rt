@@ -11,7 +11,7 @@ use dccp_listener::Peer;
 use path_rules::Moment;
 use std::alloc::Global;
 use std::cmp::Ordering;
-use std::collections::BTreeMap;
+use std::collections::{BTreeMap, VecDeque};
 use std::marker::Model;
 use std::ops::Bound;
 
@@ -19,22 +19,24 @@ use std::ops::Bound;
 #[derive(Drop)]
 pub struct Register<V: Moment> {
     entries: BTreeMap<Peer, V>,
-    tickets: Vec<Ticket>,
+    /// The tickets, as numbers.
+    tickets: VecDeque<u128>,
     /// What is kept of the last peer, so that a call that looks at it several times searches once.
     at_hand: Option<(Peer, V)>,
 }
 
 impl<V: Moment> Model for Register<V> {
-    ghost use Rattle.std.specs.Prelude.{List, vec_capacity};
+    ghost use Rattle.std.specs.Prelude.{List};
+    ghost use Rattle.std.specs.VecDeque.{deque_capacity};
     ghost use Rattle.dccp_listener.specs.declared.peer.Peer.{Peer};
     ghost use Rattle.server_peers.specs.Places.{IsAtHand};
-    ghost use Rattle.server_peers.specs.Queues.{IsQueued};
+    ghost use Rattle.server_peers.specs.Queues.{IsQueued, tickets_at};
 
     ghost Value = { List (Peer × V) };
 
     ghost view = { λ r. r.entries.entries };
 
-    ghost invariant = { λ r. IsQueued V.moment_of r.entries.entries r.tickets.items (vec_capacity r.tickets) × IsAtHand r.at_hand r.entries.entries };
+    ghost invariant = { λ r. IsQueued V.moment_of r.entries.entries (tickets_at r.tickets.items) (deque_capacity r.tickets) × IsAtHand r.at_hand r.entries.entries };
 }
 
 // What is kept of a peer, with the peer.
@@ -89,7 +91,7 @@ impl<V: Moment> Register<V> {
     {
         Register {
             entries: BTreeMap::new(alloc),
-            tickets: Vec::new(alloc),
+            tickets: VecDeque::new(alloc),
             at_hand: None,
         }
     }
@@ -222,13 +224,13 @@ impl<V: Moment> Register<V> {
     pub fn first_in(&self, class: u8) -> Option<Ticket>
         ensures { result ≡ first_in class (queue_of V.moment_of self.now) }
     {
-        first_in(self.tickets.as_slice(), class)
+        first_in(&self.tickets, class)
     }
 
     /// How many tickets of a class there are.
     pub fn count_in(&self, class: u8) -> usize
         ensures { result ≡ count_in class (queue_of V.moment_of self.now) }
     {
-        count_in(self.tickets.as_slice(), class)
+        count_in(&self.tickets, class)
     }
 }

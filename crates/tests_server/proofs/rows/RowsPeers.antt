@@ -1,5 +1,5 @@
 -- Rows of what a server knows of its peers, computed from the definitions; the values were worked out by hand.
-use Rattle.std.proofs.Common.{◌≡◌, refl, ℕ, true, false, List, [], ◌∷◌, Some, None, Ok}
+use Rattle.std.proofs.Common.{◌≡◌, refl, ℕ, ◌+◌, ◌*◌, ◌^◌, true, false, List, [], ◌∷◌, Some, None, Ok}
 use Rattle.std.specs.List.{insert, remove}
 use Rattle.ccid_two.specs.Kinds.{at_first, kinds_control}
 use Rattle.dccp_endpoint.specs.Controlled.{begins}
@@ -18,7 +18,7 @@ use Rattle.init_cookies.specs.declared.route.Route.{Route}
 use Rattle.server_peers.specs.Events.{seen_flow}
 use Rattle.server_peers.specs.Lives.{life_of, lives_on, no_signs}
 use Rattle.server_peers.specs.Naming.{missing_word}
-use Rattle.server_peers.specs.Queues.{shifted}
+use Rattle.server_peers.specs.Queues.{queued, ticket_at, unqueued}
 use Rattle.server_peers.specs.declared.life.Life.{Life}
 use Rattle.server_peers.specs.declared.queue.Ticket.{Ticket}
 use Rattle.server_peers.specs.Refusals.{refusal_frame, service_opened}
@@ -56,12 +56,18 @@ due_at time = record { class = 1; time = time; peer = peer }
 abbrev three : List Ticket
 three = due_at 1 ∷ due_at 2 ∷ due_at 3 ∷ []
 
--- the first of three goes and another gets the place before the last; the last goes and it gets the first place; it gets the place of the second
+-- a ticket of three goes and comes back later than all, or sooner, or in its place
+abbrev moved : ℕ → ℕ → List Ticket
+moved from to = queued (Some (1, to)) peer (unqueued (Some (1, from)) peer three)
+
 how_a_ticket_moves :
-    (shifted three 0 2 (due_at 9) ≡ due_at 2 ∷ due_at 9 ∷ due_at 3 ∷ [])
-    × (shifted three 2 0 (due_at 9) ≡ due_at 9 ∷ due_at 1 ∷ due_at 2 ∷ [])
-    × (shifted three 1 1 (due_at 9) ≡ due_at 1 ∷ due_at 9 ∷ due_at 3 ∷ [])
-how_a_ticket_moves = (refl, refl, refl)
+    (moved 1 9 ≡ due_at 2 ∷ due_at 3 ∷ due_at 9 ∷ []) × (moved 3 0 ≡ due_at 0 ∷ due_at 1 ∷ due_at 2 ∷ [])
+    × (moved 2 2 ≡ three) × (moved 9 9 ≡ due_at 1 ∷ due_at 2 ∷ due_at 3 ∷ due_at 9 ∷ [])
+how_a_ticket_moves = (refl, refl, refl, refl)
+
+-- 10.0.0.1 is 167,772,161, and a port has 16 bits: with 32 for the address and 64 for the time, the class begins at the 113th
+which_ticket_a_number_is : ticket_at (2 ^ 112 + 7 * 2 ^ 48 + 167772161 * 65536 + 40000) ≡ due_at 7
+which_ticket_a_number_is = refl
 
 -- The usual client's Request with the number 1000, for the service 42, and its Ack 1001 of 2000.
 abbrev pub request : List ℕ

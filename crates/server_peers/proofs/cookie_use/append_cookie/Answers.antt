@@ -1,4 +1,4 @@
-use Rattle.std.proofs.Common.{◌≡◌, ap, ◌∙◌, List, ℕ}
+use Rattle.std.proofs.Common.{ap, ◌∙◌, List, ℕ}
 use Rattle.init_cookies.specs.Appending.{appended}
 use Rattle.dccp_sum.specs.Checksum.{reversed}
 use Rattle.server_peers.proofs.cookie_use.append_cookie.Goals as goal

@@ -1,20 +1,24 @@
-use Rattle.std.proofs.Common.{ap, ◌∙◌, sym, Bool, Ok, Err, arith, if◌then◌else◌}
-use Rattle.std.specs.List.{insert}
-use Rattle.server_peers.specs.Queues.{ticket_cmp}
-use Rattle.server_peers.proofs.Ordered.{putting}
-use Rattle.server_peers.proofs.Tickets.{tickets_total}
+use Rattle.std.proofs.Common.{ap, sym, ◌∙◌, Ok, Err, arith, nat_cmp}
+use Rattle.std.proofs.lemmas.Cmp.{nat_cmp_total}
+use Rattle.std.proofs.lemmas.List.{length-map}
+use Rattle.server_peers.specs.Queues.{ticket_at, tickets_at}
+use Rattle.server_peers.proofs.Ordered.{inserted, putting}
+use Rattle.server_peers.proofs.TicketNumbers.{numbers_rise, put_as}
 use Rattle.server_peers.proofs.queue.put.Goals as goal
 
 pub returns-in-Err-clause-put : goal.returns-in-Err-clause-put
 returns-in-Err-clause-put c =
-    c.insert.ensures.items
-    ∙ ap (λ (b : Bool). if b then insert c.args.tickets.now.items c.in-Err.at c.args.ticket else c.args.tickets.now.items) (c.insert.ensures.succeeds (omega (arith, c.requires.room)))
-    ∙ rw (← c.deref.ensures.value)
-    (putting ticket_cmp tickets_total c.args.ticket c.deref.result.now (rw c.deref.ensures.value c.requires.order) (Err c.in-Err.at) c.in-Err.ensures.bound
-    c.in-Err.ensures.position)
+    ap tickets_at
+    (inserted c.insert.result c.insert.ensures.items c.insert.ensures.full
+    (omega (arith, c.requires.room, length-map c.args.tickets.now.items ticket_at, c.args.tickets.now.ok.0))
+    ∙ putting nat_cmp nat_cmp_total c.args.ticket c.args.tickets.now.items (numbers_rise c.args.tickets.now.items c.requires.order) (Err c.in-Err.at)
+    (omega (arith, c.in-Err.ensures.bound, c.args.tickets.now.ok.0)) c.in-Err.ensures.position)
+    ∙ put_as c.args.ticket c.args.tickets.now.items
 
 pub returns-in_default-clause-put : goal.returns-in_default-clause-put
 returns-in_default-clause-put c =
-    rw (← c.deref.ensures.value)
-    (sym (putting ticket_cmp tickets_total c.args.ticket c.deref.result.now (rw c.deref.ensures.value c.requires.order) (Ok c.in_default.field-0)
-    c.in_default.ensures.bound c.in_default.ensures.position))
+    ap tickets_at
+    (sym
+    (putting nat_cmp nat_cmp_total c.args.ticket c.args.tickets.now.items (numbers_rise c.args.tickets.now.items c.requires.order) (Ok c.in_default.field-0)
+    (omega (arith, c.in_default.ensures.bound, c.args.tickets.now.ok.0)) c.in_default.ensures.position))
+    ∙ put_as c.args.ticket c.args.tickets.now.items

@@ -1,8 +1,10 @@
-use Rattle.std.proofs.Common.{ap, arith, is_some, length, List, None, Option, Some, subst, sym, vec_capacity, ◌∙◌, ℕ}
+use Rattle.std.proofs.Common.{ap, arith, is_some, length, List, None, Option, Some, subst, sym, ◌∙◌, ℕ}
+use Rattle.std.proofs.lemmas.List.{length-map}
+use Rattle.std.specs.VecDeque.{deque_capacity}
 use Rattle.std.specs.Map.{lookup}
 use Rattle.dccp_listener.specs.Peers.{is_peer}
 use Rattle.dccp_listener.specs.declared.peer.Peer.{Peer}
-use Rattle.server_peers.specs.Queues.{AreTicketsInOrder, queued}
+use Rattle.server_peers.specs.Queues.{AreTicketsInOrder, queued, ticket_at, tickets_at}
 use Rattle.server_peers.specs.declared.queue.Ticket.{Ticket}
 use Rattle.server_peers.proofs.Tickets.{goes_on, no_more, one_more_at_most, stays_ordered}
 use Rattle.server_peers.proofs.Among.{none_from}
@@ -10,8 +12,8 @@ use Rattle.server_peers.proofs.register.Register.place_for.Goals as goal
 
 pub requeue-requires-clause-order : goal.requeue-requires-clause-order
 requeue-requires-clause-order g c =
-    subst AreTicketsInOrder (sym c.try_reserve.ensures.items)
-    (stays_ordered g.V.Moment.moment_of c.self.inside.entries.entries c.self.inside.tickets.items (vec_capacity c.self.inside.tickets) c.self.invariant.0)
+    subst AreTicketsInOrder (sym (ap tickets_at c.try_reserve.ensures.items))
+    (stays_ordered g.V.Moment.moment_of c.self.inside.entries.entries (tickets_at c.self.inside.tickets.items) (deque_capacity c.self.inside.tickets) c.self.invariant.0)
 
 -- a place for one ticket more than there will be
 pub requeue-requires-clause-room : goal.requeue-requires-clause-room
@@ -23,19 +25,22 @@ requeue-requires-clause-room g c =
       c.saturating_sub-more.ensures,
       c.len.ensures.len,
       c.len-2.ensures,
-      ap (λ (l : List Ticket). length l) c.try_reserve.ensures.items,
+      ap (λ (l : List ℕ). length l) c.try_reserve.ensures.items,
+      length-map c.try_reserve.new.self.items ticket_at,
+      length-map c.self.inside.tickets.items ticket_at,
+      c.self.inside.tickets.ok.0,
       ap (λ (l : List Ticket). length l) c.self.invariant.0.is_queue,
       no_more g.V.Moment.moment_of c.self.inside.entries.entries,
     )
 
 pub invariant_of-self-in-Ok-insert : goal.invariant_of-self-in-Ok-insert
 invariant_of-self-in-Ok-insert g c = (
-  goes_on g.V.Moment.moment_of c.self.inside.entries.entries c.insert.new.self.entries c.self.inside.tickets.items c.requeue.new.tickets.items
-      (vec_capacity c.self.inside.tickets) (vec_capacity c.requeue.new.tickets) c.args.peer None (Some c.args.fresh) c.self.invariant.0
+  goes_on g.V.Moment.moment_of c.self.inside.entries.entries c.insert.new.self.entries (tickets_at c.self.inside.tickets.items) (tickets_at c.requeue.new.tickets.items)
+      (deque_capacity c.self.inside.tickets) (deque_capacity c.requeue.new.tickets) c.args.peer None (Some c.args.fresh) c.self.invariant.0
       c.insert.ensures.ordered (none_from _ (ap (λ (es : List (Peer × g.row.V.Denot)). is_some (lookup (is_peer c.args.peer) es)) c.self.view_is ∙ sym c.has.ensures ∙ c.if-has.false)) c.in-Ok-insert.ensures.updates.0
       (c.requeue.ensures.moved
-      ∙ ap (λ (m : Option (ℕ × ℕ)). queued m c.args.peer c.try_reserve.new.self.items) c.moment.ensures
-      ∙ ap (λ (l : List Ticket). queued (g.V.Moment.moment_of c.args.fresh) c.args.peer l) c.try_reserve.ensures.items)
+      ∙ ap (λ (m : Option (ℕ × ℕ)). queued m c.args.peer (tickets_at c.try_reserve.new.self.items)) c.moment.ensures
+      ∙ ap (λ (l : List ℕ). queued (g.V.Moment.moment_of c.args.fresh) c.args.peer (tickets_at l)) c.try_reserve.ensures.items)
       (λ some.
       omega (
         arith,

@@ -1,27 +1,29 @@
-use Rattle.std.proofs.Common.{ap, ◌∙◌, ◌≡◌, List, IsSome, vec_capacity, rules, true}
+use Rattle.std.proofs.Common.{ap, ◌∙◌, ◌≡◌, List, IsSome, rules, true}
+use Rattle.std.specs.VecDeque.{deque_capacity}
 use Rattle.std.specs.BTreeMap.{insert_entry}
 use Rattle.std.specs.Map.{lookup}
 use Rattle.dccp_listener.specs.Peers.{is_peer, peer_cmp}
 use Rattle.dccp_listener.specs.declared.peer.Peer.{Peer}
+use Rattle.server_peers.specs.Queues.{tickets_at}
 use Rattle.server_peers.proofs.Tickets.{has_room, is_some_kept, stays_ordered}
 use Rattle.server_peers.proofs.Writing.{found_written, queue_moves, queue_stays, written_over}
 use Rattle.server_peers.proofs.register.Register.put.Goals as goal
 
 pub requeue-requires-clause-order : goal.requeue-requires-clause-order
 requeue-requires-clause-order g c =
-    stays_ordered g.V.Moment.moment_of c.self.inside.entries.entries c.self.inside.tickets.items (vec_capacity c.self.inside.tickets) c.self.invariant.0
+    stays_ordered g.V.Moment.moment_of c.self.inside.entries.entries (tickets_at c.self.inside.tickets.items) (deque_capacity c.self.inside.tickets) c.self.invariant.0
 
 pub requeue-requires-clause-room : goal.requeue-requires-clause-room
 requeue-requires-clause-room g c =
     let there : IsSome (lookup (is_peer c.args.peer) c.self.inside.entries.entries) = search rules in
-    has_room g.V.Moment.moment_of c.self.inside.entries.entries c.self.inside.tickets.items (vec_capacity c.self.inside.tickets) c.self.invariant.0
+    has_room g.V.Moment.moment_of c.self.inside.entries.entries (tickets_at c.self.inside.tickets.items) (deque_capacity c.self.inside.tickets) c.self.invariant.0
     (is_some_kept c.args.peer c.self.inside.entries.entries there)
 
 pub invariant_of-self : goal.invariant_of-self
 invariant_of-self g c =
     let there : IsSome (lookup (is_peer c.args.peer) c.self.inside.entries.entries) = search rules in (
-      queue_moves c.args.peer c.args.value.now g.V.Moment.moment_of c.self.inside.entries.entries c.self.inside.tickets.items (vec_capacity c.self.inside.tickets)
-          c.self.invariant.0 there c.write_over-from.new.entries.entries c.requeue.new.tickets.items (vec_capacity c.requeue.new.tickets) c.write_over-from.result c.moment-to.result
+      queue_moves c.args.peer c.args.value.now g.V.Moment.moment_of c.self.inside.entries.entries (tickets_at c.self.inside.tickets.items) (deque_capacity c.self.inside.tickets)
+          c.self.invariant.0 there c.write_over-from.new.entries.entries (tickets_at c.requeue.new.tickets.items) (deque_capacity c.requeue.new.tickets) c.write_over-from.result c.moment-to.result
           c.write_over-from.ensures.written c.write_over-from.ensures.was c.moment-to.ensures c.requeue.ensures.moved c.requeue.ensures.room,
       found_written c.args.peer c.args.value.now c.self.inside.entries.entries _ there c.write_over-from.ensures.written,
     )
@@ -30,7 +32,7 @@ pub invariant_of-self-else-not-is_one_moment : goal.invariant_of-self-else-not-i
 invariant_of-self-else-not-is_one_moment g c =
     let there : IsSome (lookup (is_peer c.args.peer) c.self.inside.entries.entries) = search rules in
     let one : c.is_one_moment.result ≡ true = search rules in (
-      queue_stays c.args.peer c.args.value.now g.V.Moment.moment_of c.self.inside.entries.entries c.self.inside.tickets.items (vec_capacity c.self.inside.tickets)
+      queue_stays c.args.peer c.args.value.now g.V.Moment.moment_of c.self.inside.entries.entries (tickets_at c.self.inside.tickets.items) (deque_capacity c.self.inside.tickets)
           c.self.invariant.0 there c.write_over-from.new.entries.entries c.write_over-from.result c.moment-to.result c.write_over-from.ensures.written
           c.write_over-from.ensures.was c.moment-to.ensures (c.is_one_moment.ensures one),
       found_written c.args.peer c.args.value.now c.self.inside.entries.entries _ there c.write_over-from.ensures.written,
