@@ -1,9 +1,10 @@
 //! When each timer of an end runs out. The times are those of its owner, in milliseconds since any moment.
 ghost use Rattle.std.specs.Prelude.{◌≡◌};
-ghost use Rattle.dccp_uses.specs.Alarms.{alarm_after, alarm_of, arranged_by, arranged_alarm_by, ack_hurried_by, first_again, has_run_out, is_idle, time_left, next_wait, no_alarms, progressed_by, rung_by, runs_in, set_back, sooner, starting_wait_by};
+ghost use Rattle.dccp_uses.specs.Alarms.{alarm_after, alarm_of, arranged_by, arranged_alarm_by, ack_hurried_by, first_again, has_run_out, is_idle, time_left, next_wait, no_alarms, progressed_by, rung_by, runs_in, set_back, sooner, starting_wait_by, with_alarm};
+ghost use Rattle.dccp_uses.specs.Path.{path_waits};
 ghost use Rattle.dccp_uses.specs.Upkeeps.{acks_now};
 
-use crate::Waits;
+use crate::{Path, Waits};
 use dccp_endpoint::{Congestion, Endpoint, Phase, Timer, applies_in};
 use path_rules::Wait;
 
@@ -173,13 +174,15 @@ fn runs_in(timer: Timer, condition: &Condition) -> bool
     }
 }
 
-pub(crate) fn alarm_after(runs: bool, old: Option<Alarm>, wait: u64, now: u64) -> Option<Alarm>
-    ensures { result ≡ alarm_after runs old wait now }
+// Starts, keeps or stops an alarm in place, since most go on.
+pub(crate) fn arrange_alarm(alarm: &mut Option<Alarm>, runs: bool, wait: u64, now: u64)
+    ensures { alarm.new ≡ alarm_after runs alarm.old wait now }
 {
     if !runs {
-        return None;
+        *alarm = None;
+    } else if alarm.is_none() {
+        *alarm = alarm_for(wait, now);
     }
-    Some(old.unwrap_or(Alarm { since: now, wait }))
 }
 
 // An alarm that runs for `wait` milliseconds from `now` on.
@@ -202,43 +205,54 @@ fn set_back(kind: &Wait, alarm: Option<Alarm>, now: u64) -> Option<Alarm>
     }
 }
 
-// The alarm, if it waits no longer than its first wait.
-fn first_again(alarm: Option<Alarm>, wait: u64) -> Option<Alarm>
-    ensures { result ≡ first_again alarm wait }
+// An alarm with a longer wait than its first is none from now on.
+fn shorten(alarm: &mut Option<Alarm>, wait: u64)
+    ensures { alarm.new ≡ first_again alarm.old wait }
 {
-    match alarm {
-        Some(alarm) if alarm.wait <= wait => Some(alarm),
-        Some(_) | None => None,
+    if alarm.is_some_and(|alarm| wait < alarm.wait) {
+        *alarm = None;
     }
 }
 
 impl Alarms {
-    // Starts, keeps or stops a timer at `now`.
-    fn arranged(
-        &self,
-        waits: &Waits,
-        timer: Timer,
-        condition: &Condition,
-        now: u64,
-    ) -> Option<Alarm>
-        ensures { result ≡ arranged_alarm_by waits.now self.now timer condition.now now }
+    // Sets or removes the alarm of a timer.
+    fn set(&mut self, timer: Timer, alarm: Option<Alarm>)
+        ensures { self.new ≡ with_alarm self.old timer alarm }
     {
-        let runs = runs_in(timer, condition);
-        let wait = starting_wait(waits, self, timer);
-        alarm_after(runs, self.of(timer), wait, now)
+        match timer {
+            Timer::Request => self.request = alarm,
+            Timer::Ack => self.ack = alarm,
+            Timer::Negotiate => self.negotiate = alarm,
+            Timer::Rto => self.rto = alarm,
+            Timer::Close => self.close = alarm,
+            Timer::TimeWait => self.time_wait = alarm,
+        }
     }
 
-    /// Starts, keeps or stops each timer at `now`, as an end in this condition needs it, with these waits (own). Call
-    /// it after each call of the end, and after `ring`, `note_packet` or `note_rule` if one of these was due.
-    pub fn arrange(&mut self, waits: &Waits, condition: &Condition, now: u64)
-        ensures { self.new ≡ arranged_by waits.now self.old condition.now now }
+    // Starts, keeps or stops a timer at `now`. Most go on, and the waits are worked out only for one that starts.
+    #[inline(always)]
+    fn arrange_timer(&mut self, path: &Path, timer: Timer, condition: &Condition, now: u64)
+        ensures { self.new ≡ with_alarm self.old timer (arranged_alarm_by (path_waits path.now) self.old timer condition.now now) }
     {
-        self.request = self.arranged(waits, Timer::Request, condition, now);
-        self.ack = self.arranged(waits, Timer::Ack, condition, now);
-        self.negotiate = self.arranged(waits, Timer::Negotiate, condition, now);
-        self.rto = self.arranged(waits, Timer::Rto, condition, now);
-        self.close = self.arranged(waits, Timer::Close, condition, now);
-        self.time_wait = self.arranged(waits, Timer::TimeWait, condition, now);
+        if !runs_in(timer, condition) {
+            self.set(timer, None);
+        } else if self.of(timer).is_none() {
+            let wait = starting_wait(&path.waits(), self, timer);
+            self.set(timer, alarm_for(wait, now));
+        }
+    }
+
+    /// Starts, keeps or stops each timer at `now`, as an end in this condition needs it, with the waits of its path (own).
+    /// Call it after each call of the end, and after `ring`, `note_packet` or `note_rule` if one of these was due.
+    pub fn arrange(&mut self, path: &Path, condition: &Condition, now: u64)
+        ensures { self.new ≡ arranged_by (path_waits path.now) self.old condition.now now }
+    {
+        self.arrange_timer(path, Timer::Request, condition, now);
+        self.arrange_timer(path, Timer::Ack, condition, now);
+        self.arrange_timer(path, Timer::Negotiate, condition, now);
+        self.arrange_timer(path, Timer::Rto, condition, now);
+        self.arrange_timer(path, Timer::Close, condition, now);
+        self.arrange_timer(path, Timer::TimeWait, condition, now);
     }
 
     /// This timer has run out at `now`, in milliseconds, and the end was called for it (own). It waits twice as long
@@ -262,21 +276,21 @@ impl Alarms {
 
     // If `progress`, a packet that arrived took something out of flight: the timer rto starts again, with its first
     // wait.
-    fn progress(&mut self, waits: &Waits, progress: bool)
-        ensures { self.new ≡ progressed_by waits.now self.old progress }
+    fn progress(&mut self, path: &Path, progress: bool)
+        ensures { self.new ≡ progressed_by (path_waits path.now) self.old progress }
     {
         if progress {
             self.rto = None;
-            self.rto_wait = waits.rto.first;
+            self.rto_wait = path.waits().rto.first;
         }
     }
 
     // If data were delivered, an Ack goes out no later than after its timer's first wait.
-    fn hurry_ack(&mut self, waits: &Waits, delivered: bool)
-        ensures { self.new ≡ ack_hurried_by waits.now self.old delivered }
+    fn hurry_ack(&mut self, path: &Path, delivered: bool)
+        ensures { self.new ≡ ack_hurried_by (path_waits path.now) self.old delivered }
     {
         if delivered {
-            self.ack = first_again(self.ack, waits.ack.first);
+            shorten(&mut self.ack, path.waits().ack.first);
         }
     }
 
@@ -294,16 +308,16 @@ impl Alarms {
     /// before the data.
     pub fn note_packet(
         &mut self,
-        waits: &Waits,
+        path: &Path,
         progress: bool,
         delivered: bool,
         hole: bool,
         now: u64,
     )
-        ensures { self.new ≡ acks_now (ack_hurried_by waits.now (progressed_by waits.now self.old progress) delivered) hole now }
+        ensures { self.new ≡ acks_now (ack_hurried_by (path_waits path.now) (progressed_by (path_waits path.now) self.old progress) delivered) hole now }
     {
-        self.progress(waits, progress);
-        self.hurry_ack(waits, delivered);
+        self.progress(path, progress);
+        self.hurry_ack(path, delivered);
         self.ack_at_once(hole, now);
     }
 }

@@ -1,8 +1,9 @@
 //! What the owner of an end keeps of its path, and how the rules change it.
 ghost use Rattle.std.specs.Prelude.{◌≡◌};
+ghost use Rattle.dccp_uses.specs.Alarms.{alarm_after, starting_wait_by};
 ghost use Rattle.dccp_uses.specs.Path.{acked_sample, aim_of, aimed, answered_probe, arranged_path, arranged_rules, by_rule, data_timed, either_of, fell, first_sent, flown, handshake_over, handshake_timed, heard_from, notice_heeded, is_answered, is_probing, kept_if, measured, path_begins, path_heard, path_waits, patience, patient_alarm, rules_alarm, rules_left, ruled_patience, sampled_if, sent_unless, since_sent, timed_out_path, told_timer, none_timed, used_window, wants_aim, window_left, with_flight};
 
-use crate::alarms::{Alarm, alarm_after, alarm_for, sooner};
+use crate::alarms::{Alarm, Alarms, alarm_for, arrange_alarm, sooner, starting_wait};
 use crate::sight::{is_handshake, is_open_phase, is_stand_stable};
 use crate::{Notice, Pace, Reader, Sight, Waits};
 use dccp_endpoint::{Phase, Seq48, Timer};
@@ -392,19 +393,13 @@ fn ruled_patience(pace: &Pace, phase: Phase) -> Option<u64>
     if pace.gives_up { patience(phase) } else { None }
 }
 
-fn patient_alarm(patience: Option<u64>, old: Option<Alarm>, now: u64) -> Option<Alarm>
-    ensures { result ≡ patient_alarm patience old now }
+fn arrange_patience(alarm: &mut Option<Alarm>, patience: Option<u64>, now: u64)
+    ensures { alarm.new ≡ patient_alarm patience alarm.old now }
 {
     match patience {
-        Some(wait) => alarm_after(true, old, wait, now),
-        None => None,
+        Some(wait) => arrange_alarm(alarm, true, wait, now),
+        None => *alarm = None,
     }
-}
-
-fn kept_if(keeps: bool, probe: Option<Seq48>) -> Option<Seq48>
-    ensures { result ≡ kept_if keeps probe }
-{
-    if keeps { probe } else { None }
 }
 
 fn rules_alarm(left: Option<u64>, least: u64, now: u64) -> Option<Alarm>
@@ -421,6 +416,8 @@ fn rules_alarm(left: Option<u64>, least: u64, now: u64) -> Option<Alarm>
 
 // Timers that have run out, and how the rules go on.
 impl Path {
+    ghost use Rattle.dccp_states.specs.declared.calls.Timer.TheVariants as timers;
+
     // After a timeout, at this GSS.
     pub(crate) fn time_out(&mut self, gss: Seq48)
         ensures { self.new ≡ timed_out_path self.old gss }
@@ -457,16 +454,31 @@ impl Path {
             && (probes_first(sight.window) || self.probe.is_some())
     }
 
-    fn arrange_rules(&mut self, wait: u64, sight: &Sight, now: u64)
-        ensures { self.new ≡ arranged_rules self.old wait sight.now now }
+    // The peer is asked, or is to be asked, for a sign of life exactly if `probing`: first after the wait with which the
+    // timer rto would begin.
+    fn arrange_probing(&mut self, probing: bool, alarms: &Alarms, now: u64)
+        ensures { self.new ≡ record self.old {
+          probe = kept_if probing self.old.probe;
+          probing = alarm_after probing self.old.probing (starting_wait_by (path_waits self.old) alarms.now timers.Rto) now;
+        } }
+    {
+        if !probing {
+            self.probe = None;
+            self.probing = None;
+        } else if self.probing.is_none() {
+            self.probing = alarm_for(starting_wait(&self.waits(), alarms, Timer::Rto), now);
+        }
+    }
+
+    fn arrange_rules(&mut self, alarms: &Alarms, sight: &Sight, now: u64)
+        ensures { self.new ≡ arranged_rules self.old (starting_wait_by (path_waits self.old) alarms.now timers.Rto) sight.now now }
     {
         let probing = self.is_probing(sight);
         let silent = self.pace.gives_up && is_open_phase(sight.phase);
         let patience = ruled_patience(&self.pace, sight.phase);
-        self.probe = kept_if(probing, self.probe);
-        self.probing = alarm_after(probing, self.probing, wait, now);
-        self.silence = alarm_after(silent, self.silence, 60_000, now);
-        self.give_up = patient_alarm(patience, self.give_up, now);
+        self.arrange_probing(probing, alarms, now);
+        arrange_alarm(&mut self.silence, silent, 60_000, now);
+        arrange_patience(&mut self.give_up, patience, now);
     }
 
     // In how many milliseconds a rule has something to do.
@@ -479,13 +491,12 @@ impl Path {
         sooner(left, self.ratio, now)
     }
 
-    /// The rules go on from `now` for an end of which they see `sight` (own). The timer rto would begin with a wait of
-    /// `wait` milliseconds. No rule is due before `least` milliseconds have gone by: 1 after a rule made the end do
-    /// something, otherwise 0.
-    pub fn arrange(&mut self, wait: u64, sight: &Sight, least: u64, now: u64)
-        ensures { self.new ≡ arranged_path self.old wait sight.now least now }
+    /// The rules go on from `now` for an end with these timers, of which they see `sight` (own). No rule is due before
+    /// `least` milliseconds have gone by: 1 after a rule made the end do something, otherwise 0.
+    pub fn arrange(&mut self, alarms: &Alarms, sight: &Sight, least: u64, now: u64)
+        ensures { self.new ≡ arranged_path self.old (starting_wait_by (path_waits self.old) alarms.now timers.Rto) sight.now least now }
     {
-        self.arrange_rules(wait, sight, now);
+        self.arrange_rules(alarms, sight, now);
         self.rules = rules_alarm(self.rules_left(now), least, now);
     }
 }

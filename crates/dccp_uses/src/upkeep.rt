@@ -173,11 +173,9 @@ impl Upkeep {
     fn go_on_seen(&mut self, sight: &Sight, least: u64, now: u64)
         ensures { self.new ≡ kept_seen now least self.old.alarms self.old.path sight.now }
     {
-        let waits = self.path.waits();
-        let wait = starting_wait(&waits, &self.alarms, Timer::Rto);
         let condition = ruled_condition(&self.path, sight);
-        self.alarms.arrange(&waits, &condition, now);
-        self.path.arrange(wait, sight, least, now);
+        self.alarms.arrange(&self.path, &condition, now);
+        self.path.arrange(&self.alarms, sight, least, now);
     }
 
     /// The end took a call that changes only its phase: the timers and the rules go on.
@@ -228,10 +226,9 @@ impl Upkeep {
         let is = Sight::of(end);
         let hole = is_hole(&self.path, heard, &is);
         self.path.hear(&heard.was, &is, heard.taken, now);
-        let waits = self.path.waits();
         let progress = is.in_flight < heard.was.in_flight;
         self.alarms
-            .note_packet(&waits, progress, heard.delivered, hole, now);
+            .note_packet(&self.path, progress, heard.delivered, hole, now);
         self.go_on_seen(&is, 0, now);
     }
 
