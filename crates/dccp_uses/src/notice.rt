@@ -1,14 +1,15 @@
 //! What a packet says about the application that reads an end's data.
-ghost use Rattle.std.specs.Prelude.{◌≡◌, ◌<◌, ◌≤◌};
+ghost use Rattle.std.specs.Prelude.{◌≡◌, ◌<◌, ◌≤◌, [], false};
 ghost use Rattle.std.specs.List.{list_any};
 ghost use Rattle.congestion_trait.specs.Flight.{is_past};
+ghost use Rattle.data_dropped.specs.Reports.{drop_options};
 ghost use Rattle.dccp_uses.specs.Notice.{drops_told, is_as_marked, is_code, is_slow_option, new_reach, no_drops, no_notice, notice_of, drops_with_code};
 
 use crate::Reader;
 use data_dropped::DropReport;
 use dccp_endpoint::Seq48;
 use dccp_options::OptList;
-use dccp_options::kinds::SLOW_RECEIVER;
+use dccp_options::kinds::{DATA_DROPPED, SLOW_RECEIVER};
 
 /// For how many numbers a first report of drops is read, from its acknowledgement number down (own).
 const MOST_NUMBERS: u64 = 2048;
@@ -157,10 +158,28 @@ fn is_slow(options: &mut OptList<'_>) -> bool
     false
 }
 
+// Whether these options say anything, which few packets do: whether one is a Slow Receiver or a Data Dropped.
+fn say_anything(options: &mut OptList<'_>) -> bool
+    ensures slow { result ≡ false → list_any is_slow_option options.old ≡ false }
+    ensures drops { result ≡ false → drop_options options.old ≡ [] }
+{
+    while let Some(item) = options.next() {
+        match item {
+            Ok(option) if option.kind == SLOW_RECEIVER || option.kind == DATA_DROPPED =>
+                return true,
+            _ => {}
+        }
+    }
+    false
+}
+
 /// What these options say, if they report from this number downwards.
 pub(crate) fn notice_of(reader: &Reader, base: Option<Seq48>, options: OptList<'_>) -> Notice
     ensures { result ≡ notice_of reader.now base options.entry }
 {
+    if !say_anything(&mut options.again()) {
+        return Notice::none();
+    }
     let slow = is_slow(&mut options.again());
     let Some(ack) = base else {
         return Notice {
