@@ -1,5 +1,6 @@
 //! What is known of the application that reads an end's data, and what that leaves of the window.
-ghost use Rattle.std.specs.Prelude.{◌≡◌};
+ghost use Rattle.std.specs.Prelude.{◌≡◌, ℕ, Option, true};
+ghost use Rattle.path_rules.specs.declared.round_trip.RoundTrip.{RoundTrip};
 ghost use Rattle.dccp_uses.specs.Reader.{asks_slower, counted_after, counted_up_to, halved_if_any, is_used_up, is_held, narrows, opened_if_any, reader_begins, reader_congested, reader_heard, reader_moved, reader_opened, reader_slowed, reader_timed_out, reader_told, restraint_of, shrunk_if_any};
 
 use crate::{Notice, Sight, TimedPacket};
@@ -189,6 +190,14 @@ impl Reader {
         self.stopped = self.stopped || notice.drops.stopped;
     }
 
+    // Whether a packet with this notice leaves all as it is, as most do: it says nothing, the window is no narrower, and
+    // no allowance may open.
+    fn stays(&self, notice: &Notice, old: &Sight, new: &Sight) -> bool
+        ensures { result ≡ true → (trip : Option RoundTrip) (now : ℕ) → reader_heard trip self.now notice.now old.now new.now now ≡ self.now }
+    {
+        self.allowance.is_none() && !narrows(old, new) && *notice == Notice::none()
+    }
+
     /// A packet with this notice was taken at `now` (RFC 4340, sections 11.6, 11.7.1 and 11.7.2; RFC 4341, section
     /// 5.2). `trip` is the measured round trip; `old` and `new` are what the rules saw of the end before and after the
     /// packet.
@@ -202,6 +211,9 @@ impl Reader {
     )
         ensures { self.new ≡ reader_heard trip self.old notice.now old.now new.now now }
     {
+        if self.stays(notice, old, new) {
+            return;
+        }
         self.move_allowance(trip, notice, old, new, now);
         self.note_told(notice);
     }
