@@ -1,8 +1,7 @@
 //! What is kept of each peer that has a flow, and the order in which something is due for it.
-ghost use Rattle.std.specs.Prelude.{◌≡◌, IsSome};
+ghost use Rattle.std.specs.Prelude.{◌≡◌, IsSome, Some};
 ghost use Rattle.std.specs.Map.{lookup, set_value};
 ghost use Rattle.dccp_listener.specs.Peers.{is_peer};
-ghost use Rattle.server_peers.specs.Places.{IsAtHand};
 ghost use Rattle.server_peers.specs.Queues.{moment_if};
 
 use crate::queue::{Ticket, count_in, first_in, is_one_moment, requeue};
@@ -39,13 +38,16 @@ impl<V: Moment> Model for Register<V> {
     ghost invariant = { λ r. IsQueued V.moment_of r.entries.entries (tickets_at r.tickets.items) (deque_capacity r.tickets) × IsAtHand r.at_hand r.entries.entries };
 }
 
-// What is kept of a peer, with the peer.
-fn entry_of<V: Moment>(entries: &BTreeMap<Peer, V>, peer: Peer) -> Option<(Peer, V)>
-    ensures { IsAtHand result entries.now.entries }
+// Puts what is kept of a peer at hand, in place if something is there.
+fn put_at_hand<V: Copy>(at_hand: &mut Option<(Peer, V)>, peer: Peer, value: &V)
+    ensures { at_hand.new ≡ Some (peer, value.now) }
 {
-    match entries.get(&peer) {
-        Some(value) => Some((peer, *value)),
-        None => None,
+    match at_hand {
+        Some((last, kept)) => {
+            *last = peer;
+            *kept = *value;
+        }
+        None => *at_hand = Some((peer, *value)),
     }
 }
 
@@ -100,7 +102,10 @@ impl<V: Moment> Register<V> {
     pub fn seek(&mut self, peer: Peer)
         ensures { self.new ≡ self.old }
     {
-        self.at_hand = entry_of(&self.entries, peer);
+        match self.entries.get(&peer) {
+            Some(value) => put_at_hand(&mut self.at_hand, peer, value),
+            None => self.at_hand = None,
+        }
     }
 
     // What is kept of a peer, if it is at hand.
@@ -176,7 +181,7 @@ impl<V: Moment> Register<V> {
     {
         let from = write_over(&mut self.entries, peer, value);
         let to = value.moment();
-        self.at_hand = Some((peer, *value));
+        put_at_hand(&mut self.at_hand, peer, value);
         if !is_one_moment(from, to) {
             requeue(&mut self.tickets, peer, from, to);
         }

@@ -1,9 +1,10 @@
-use Rattle.std.proofs.Common.{ap, ◌∙◌, ◌≡◌, List, IsSome, rules, true}
+use Rattle.std.proofs.Common.{ap, ◌∙◌, ◌≡◌, List, IsSome, Option, rules, subst, sym, true}
 use Rattle.std.specs.VecDeque.{deque_capacity}
 use Rattle.std.specs.BTreeMap.{insert_entry}
 use Rattle.std.specs.Map.{lookup}
 use Rattle.dccp_listener.specs.Peers.{is_peer, peer_cmp}
 use Rattle.dccp_listener.specs.declared.peer.Peer.{Peer}
+use Rattle.server_peers.specs.Places.{IsAtHand}
 use Rattle.server_peers.specs.Queues.{tickets_at}
 use Rattle.server_peers.proofs.Tickets.{has_room, is_some_kept, stays_ordered}
 use Rattle.server_peers.proofs.Writing.{found_written, queue_moves, queue_stays, written_over}
@@ -25,7 +26,8 @@ invariant_of-self g c =
       queue_moves c.args.peer c.args.value.now g.V.Moment.moment_of c.self.inside.entries.entries (tickets_at c.self.inside.tickets.items) (deque_capacity c.self.inside.tickets)
           c.self.invariant.0 there c.write_over-from.new.entries.entries (tickets_at c.requeue.new.tickets.items) (deque_capacity c.requeue.new.tickets) c.write_over-from.result c.moment-to.result
           c.write_over-from.ensures.written c.write_over-from.ensures.was c.moment-to.ensures c.requeue.ensures.moved c.requeue.ensures.room,
-      found_written c.args.peer c.args.value.now c.self.inside.entries.entries _ there c.write_over-from.ensures.written,
+      subst (λ (at : Option (Peer × g.row.V.Denot)). IsAtHand at c.write_over-from.new.entries.entries) (sym c.put_at_hand.ensures)
+          (found_written c.args.peer c.args.value.now c.self.inside.entries.entries c.write_over-from.new.entries.entries there c.write_over-from.ensures.written),
     )
 
 pub invariant_of-self-else-not-is_one_moment : goal.invariant_of-self-else-not-is_one_moment
@@ -35,7 +37,8 @@ invariant_of-self-else-not-is_one_moment g c =
       queue_stays c.args.peer c.args.value.now g.V.Moment.moment_of c.self.inside.entries.entries (tickets_at c.self.inside.tickets.items) (deque_capacity c.self.inside.tickets)
           c.self.invariant.0 there c.write_over-from.new.entries.entries c.write_over-from.result c.moment-to.result c.write_over-from.ensures.written
           c.write_over-from.ensures.was c.moment-to.ensures (c.is_one_moment.ensures one),
-      found_written c.args.peer c.args.value.now c.self.inside.entries.entries _ there c.write_over-from.ensures.written,
+      subst (λ (at : Option (Peer × g.row.V.Denot)). IsAtHand at c.write_over-from.new.entries.entries) (sym c.put_at_hand.ensures)
+          (found_written c.args.peer c.args.value.now c.self.inside.entries.entries c.write_over-from.new.entries.entries there c.write_over-from.ensures.written),
     )
 
 pub returns-then-not-is_one_moment : goal.returns-then-not-is_one_moment
