@@ -4,7 +4,7 @@ use Rattle.std.proofs.Math.ListN.{get_or-map as mapped}
 use Rattle.std.proofs.lemmas.Bool.{cases_lt}
 use Rattle.std.proofs.lemmas.Cmp.{ranked}
 use Rattle.std.proofs.lemmas.Bool.Decides.{nat_tests}
-use Rattle.std.proofs.lemmas.List.{get_or-map, length-map}
+use Rattle.std.proofs.lemmas.List.{get_or-map, get_or_default, length-map}
 use Rattle.std.proofs.lemmas.Nat.{from_be_bytes-to_be_bytes_4}
 use Rattle.std.specs.BTreeSet.{insert_key}
 use Rattle.std.specs.Cmp.{nat_cmp_is, ranks}
@@ -147,3 +147,20 @@ parted_under least ns ordered i j d le lt is = elim (cases_lt i j) [
       grind (arith, nat_tests, is, ranked (get_or ns i d) (get_or ns j d) Less (sym (less_at nat_cmp ns i j d (numbers_rise ns ordered) before lt)))
   | inr at_least ↦ subst (λ (n : ℕ). nat_lt (get_or ns n d) least ≡ true) {x = j} (omega (arith, le, at_least)) is
 ]
+
+-- all numbers come before one that is above the last
+pub all_before : (n last : ℕ) (ns : List ℕ) → AreTicketsInOrder (tickets_at ns) → last ≡ get_or ns (length ns - 1) last → last < n
+    → (k d : ℕ) → k < length ns → nat_cmp (get_or ns k d) n ≡ Less
+all_before n last ns ordered is less k d lt =
+    let end : get_or ns (length ns - 1) d ≡ last = get_or_default ns (length ns - 1) d last (omega (arith, lt)) ∙ sym is in
+    sym
+    (nat_cmp_is (get_or ns k d) n Less (elim (cases_lt k (length ns - 1)) [
+      | inl before ↦
+          omega (
+            arith,
+            less,
+            end,
+            ranked (get_or ns k d) (get_or ns (length ns - 1) d) Less (sym (less_at nat_cmp ns k (length ns - 1) d (numbers_rise ns ordered) before (omega (arith, lt)))),
+          )
+      | inr from ↦ omega (arith, less, end, ap (λ (i : ℕ). get_or ns i d) {x = k} {y = length ns - 1} (omega (arith, from, lt)))
+    ]))

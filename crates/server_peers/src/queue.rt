@@ -1,6 +1,8 @@
 //! The tickets of peers: the order in which something is due for what is kept of them.
 ghost use Rattle.std.specs.Prelude.{◌≡◌, ◌<◌, ◌≤◌, length, true};
 ghost use Rattle.std.specs.BTreeSet.{insert_key};
+ghost use Rattle.std.specs.List.Sorted.{IsBinarySearchResult, IsSearchInRange};
+ghost use Rattle.std.specs.Ordering.{nat_cmp};
 ghost use Rattle.std.specs.VecDeque.{deque_capacity};
 ghost use Rattle.dccp_listener.specs.Numbers.{AreDigits};
 ghost use Rattle.server_peers.specs.Queues.{AreTicketsInOrder, BeginsAt, count_in, first_in, of_class, queued, ticket, ticket_at, ticket_cmp, tickets_at, unqueued, without};
@@ -55,6 +57,25 @@ fn of_class(number: u128, class: u8) -> Option<Ticket>
     })
 }
 
+// The place of a ticket, or where it would be. Most often one goes that is the first, and one comes after the last.
+fn place_of(tickets: &VecDeque<u128>, ticket: u128) -> Result<usize, usize>
+    requires { AreTicketsInOrder (tickets_at tickets.now.items) }
+    ensures bound { IsSearchInRange result (length tickets.now.items) }
+    ensures position { IsBinarySearchResult (λ n. nat_cmp n ticket) tickets.now.items result }
+{
+    let count = tickets.len();
+    if count == 0 {
+        return Err(0);
+    }
+    if tickets[0] == ticket {
+        return Ok(0);
+    }
+    if tickets[count - 1] < ticket {
+        return Err(count);
+    }
+    tickets.binary_search(&ticket)
+}
+
 // Puts a ticket in its place, unless it is there.
 fn put(tickets: &mut VecDeque<u128>, ticket: u128)
     requires order { AreTicketsInOrder (tickets_at tickets.old.items) }
@@ -62,7 +83,7 @@ fn put(tickets: &mut VecDeque<u128>, ticket: u128)
     ensures put { tickets_at tickets.new.items ≡ insert_key ticket_cmp (tickets_at tickets.old.items) (ticket_at ticket) }
     ensures room { deque_capacity tickets.old ≤ deque_capacity tickets.new }
 {
-    if let Err(at) = tickets.binary_search(&ticket) {
+    if let Err(at) = place_of(tickets, ticket) {
         let _ = tickets.insert(at, ticket);
     }
 }
@@ -73,7 +94,7 @@ fn take(tickets: &mut VecDeque<u128>, ticket: u128)
     ensures taken { tickets_at tickets.new.items ≡ without (ticket_at ticket) (tickets_at tickets.old.items) }
     ensures room { deque_capacity tickets.old ≤ deque_capacity tickets.new }
 {
-    if let Ok(at) = tickets.binary_search(&ticket) {
+    if let Ok(at) = place_of(tickets, ticket) {
         let _ = tickets.remove(at);
     }
 }

@@ -12,7 +12,7 @@ returns-in-Err-clause-put c =
     (inserted c.insert.result c.insert.ensures.items c.insert.ensures.full
     (omega (arith, c.requires.room, length-map c.args.tickets.now.items ticket_at, c.args.tickets.now.ok.0))
     ∙ putting nat_cmp nat_cmp_total c.args.ticket c.args.tickets.now.items (numbers_rise c.args.tickets.now.items c.requires.order) (Err c.in-Err.at)
-    (omega (arith, c.in-Err.ensures.bound, c.args.tickets.now.ok.0)) c.in-Err.ensures.position)
+    c.in-Err.ensures.bound c.in-Err.ensures.position)
     ∙ put_as c.args.ticket c.args.tickets.now.items
 
 pub returns-in_default-clause-put : goal.returns-in_default-clause-put
@@ -20,5 +20,5 @@ returns-in_default-clause-put c =
     ap tickets_at
     (sym
     (putting nat_cmp nat_cmp_total c.args.ticket c.args.tickets.now.items (numbers_rise c.args.tickets.now.items c.requires.order) (Ok c.in_default.field-0)
-    (omega (arith, c.in_default.ensures.bound, c.args.tickets.now.ok.0)) c.in_default.ensures.position))
+    c.in_default.ensures.bound c.in_default.ensures.position))
     ∙ put_as c.args.ticket c.args.tickets.now.items

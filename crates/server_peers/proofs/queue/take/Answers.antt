@@ -8,14 +8,14 @@ use Rattle.server_peers.proofs.queue.take.Goals as goal
 pub returns-in-Ok-clause-taken : goal.returns-in-Ok-clause-taken
 returns-in-Ok-clause-taken c =
     ap tickets_at
-    (removed c.remove.result c.remove.ensures.items (c.remove.ensures.variant.1 c.in-Ok.ensures.bound)
+    (removed c.remove.result c.remove.ensures.items (c.remove.ensures.variant.1 (omega (arith, c.in-Ok.ensures.bound, c.args.tickets.now.ok.0)))
     ∙ taking nat_cmp nat_cmp_total c.args.ticket c.args.tickets.now.items (numbers_rise c.args.tickets.now.items c.requires) (Ok c.in-Ok.at)
-    (omega (arith, c.in-Ok.ensures.bound, c.args.tickets.now.ok.0)) c.in-Ok.ensures.position)
+    c.in-Ok.ensures.bound c.in-Ok.ensures.position)
     ∙ left_as c.args.ticket c.args.tickets.now.items
 
 pub returns-in_default-clause-taken : goal.returns-in_default-clause-taken
 returns-in_default-clause-taken c =
     ap tickets_at
     (taking nat_cmp nat_cmp_total c.args.ticket c.args.tickets.now.items (numbers_rise c.args.tickets.now.items c.requires) (Err c.in_default.field-0)
-    (omega (arith, c.in_default.ensures.bound, c.args.tickets.now.ok.0)) c.in_default.ensures.position)
+    c.in_default.ensures.bound c.in_default.ensures.position)
     ∙ left_as c.args.ticket c.args.tickets.now.items
