@@ -1,6 +1,7 @@
 //! The tickets of peers: the order in which something is due for what is kept of them.
-ghost use Rattle.std.specs.Prelude.{◌≡◌, ◌<◌, ◌≤◌, length, true};
+ghost use Rattle.std.specs.Prelude.{◌≡◌, ◌<◌, ◌≤◌, ◌∷◌, get_or, length, true};
 ghost use Rattle.std.specs.BTreeSet.{insert_key};
+ghost use Rattle.std.specs.List.{insert, remove};
 ghost use Rattle.std.specs.List.Sorted.{IsBinarySearchResult, IsSearchInRange};
 ghost use Rattle.std.specs.Ordering.{nat_cmp};
 ghost use Rattle.std.specs.VecDeque.{deque_capacity};
@@ -76,6 +77,44 @@ fn place_of(tickets: &VecDeque<u128>, ticket: u128) -> Result<usize, usize>
     tickets.binary_search(&ticket)
 }
 
+// The number at a place comes to the front, and those before it move up.
+fn to_front(numbers: &mut [u128], at: usize)
+    requires { at < length numbers.old }
+    ensures { numbers.new ≡ get_or numbers.old at 0 ∷ remove numbers.old at }
+{
+    numbers[..at + 1].rotate_right(1);
+}
+
+// Inserts a ticket at a place: those on the shorter side make way. For those after the place the compiler makes one
+// `memmove` of this form, but not of `VecDeque::insert`.
+fn insert_at(tickets: &mut VecDeque<u128>, at: usize, ticket: u128)
+    requires within { at ≤ length tickets.old.items }
+    requires room { length tickets.old.items < deque_capacity tickets.old }
+    ensures inserted { tickets.new.items ≡ insert tickets.old.items at ticket }
+    ensures room { deque_capacity tickets.old ≤ deque_capacity tickets.new }
+{
+    if at < tickets.len() / 2 {
+        let _ = tickets.insert(at, ticket);
+    } else {
+        tickets.push_back_reserved(ticket);
+        tickets.make_contiguous()[at..].rotate_right(1);
+    }
+}
+
+// Removes the ticket at a place: those on the shorter side fill it, and for those before it there is one `memmove`.
+fn remove_at(tickets: &mut VecDeque<u128>, at: usize)
+    requires { at < length tickets.old.items }
+    ensures removed { tickets.new.items ≡ remove tickets.old.items at }
+    ensures room { deque_capacity tickets.new ≡ deque_capacity tickets.old }
+{
+    if at < tickets.len() / 2 {
+        to_front(tickets.make_contiguous(), at);
+        let _ = tickets.pop_front();
+    } else {
+        let _ = tickets.remove(at);
+    }
+}
+
 // Puts a ticket in its place, unless it is there.
 fn put(tickets: &mut VecDeque<u128>, ticket: u128)
     requires order { AreTicketsInOrder (tickets_at tickets.old.items) }
@@ -84,7 +123,7 @@ fn put(tickets: &mut VecDeque<u128>, ticket: u128)
     ensures room { deque_capacity tickets.old ≤ deque_capacity tickets.new }
 {
     if let Err(at) = place_of(tickets, ticket) {
-        let _ = tickets.insert(at, ticket);
+        insert_at(tickets, at, ticket);
     }
 }
 
@@ -95,7 +134,7 @@ fn take(tickets: &mut VecDeque<u128>, ticket: u128)
     ensures room { deque_capacity tickets.old ≤ deque_capacity tickets.new }
 {
     if let Ok(at) = place_of(tickets, ticket) {
-        let _ = tickets.remove(at);
+        remove_at(tickets, at);
     }
 }
 

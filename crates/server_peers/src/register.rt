@@ -151,7 +151,8 @@ impl<V: Moment> Register<V> {
         if self.has(peer) {
             return Ok(true);
         }
-        let more = (self.entries.len() + 2).saturating_sub(self.tickets.len());
+        // Twice the places, since a full ring moves all tickets to be one slice.
+        let more = self.entries.len() + 2;
         let Ok(()) = self.tickets.try_reserve(more) else {
             return Err(NoMemory);
         };

@@ -1,16 +1,14 @@
-use Rattle.std.proofs.Common.{ap, sym, ◌∙◌, Ok, Err, arith, nat_cmp}
+use Rattle.std.proofs.Common.{ap, sym, ◌∙◌, Ok, Err, nat_cmp}
 use Rattle.std.proofs.lemmas.Cmp.{nat_cmp_total}
-use Rattle.std.proofs.lemmas.List.{length-map}
-use Rattle.server_peers.specs.Queues.{ticket_at, tickets_at}
-use Rattle.server_peers.proofs.Ordered.{inserted, putting}
+use Rattle.server_peers.specs.Queues.{tickets_at}
+use Rattle.server_peers.proofs.Ordered.{putting}
 use Rattle.server_peers.proofs.TicketNumbers.{numbers_rise, put_as}
 use Rattle.server_peers.proofs.queue.put.Goals as goal
 
 pub returns-in-Err-clause-put : goal.returns-in-Err-clause-put
 returns-in-Err-clause-put c =
     ap tickets_at
-    (inserted c.insert.result c.insert.ensures.items c.insert.ensures.full
-    (omega (arith, c.requires.room, length-map c.args.tickets.now.items ticket_at, c.args.tickets.now.ok.0))
+    (c.insert_at.ensures.inserted
     ∙ putting nat_cmp nat_cmp_total c.args.ticket c.args.tickets.now.items (numbers_rise c.args.tickets.now.items c.requires.order) (Err c.in-Err.at)
     c.in-Err.ensures.bound c.in-Err.ensures.position)
     ∙ put_as c.args.ticket c.args.tickets.now.items

@@ -1,14 +1,14 @@
-use Rattle.std.proofs.Common.{ap, ◌∙◌, Ok, Err, arith, nat_cmp}
+use Rattle.std.proofs.Common.{ap, ◌∙◌, Ok, Err, nat_cmp}
 use Rattle.std.proofs.lemmas.Cmp.{nat_cmp_total}
 use Rattle.server_peers.specs.Queues.{tickets_at}
-use Rattle.server_peers.proofs.Ordered.{removed, taking}
+use Rattle.server_peers.proofs.Ordered.{taking}
 use Rattle.server_peers.proofs.TicketNumbers.{left_as, numbers_rise}
 use Rattle.server_peers.proofs.queue.take.Goals as goal
 
 pub returns-in-Ok-clause-taken : goal.returns-in-Ok-clause-taken
 returns-in-Ok-clause-taken c =
     ap tickets_at
-    (removed c.remove.result c.remove.ensures.items (c.remove.ensures.variant.1 (omega (arith, c.in-Ok.ensures.bound, c.args.tickets.now.ok.0)))
+    (c.remove_at.ensures.removed
     ∙ taking nat_cmp nat_cmp_total c.args.ticket c.args.tickets.now.items (numbers_rise c.args.tickets.now.items c.requires) (Ok c.in-Ok.at)
     c.in-Ok.ensures.bound c.in-Ok.ensures.position)
     ∙ left_as c.args.ticket c.args.tickets.now.items
