@@ -1,13 +1,13 @@
 //! A step that gets no memory changes nothing. When it is made again, it gives what it would have given at first.
 //!
 //! Each event of the plain handshake is tried again after NoMemory. Its frames and both ends are then those of the
-//! handshake, as `handshake` of examples/ has them. With ample memory no step is refused; `tools/refusals` refuses each
-//! allocation in turn.
+//! handshake, as `handshake` of examples/ has them. Then so many Acks go out and arrive that the lists of a world need
+//! more room. With ample memory no step is refused; `tools/refusals` refuses each allocation in turn.
 ghost use Rattle.std.specs.Prelude.{◌≡◌};
 
 use ccid_two::Kinds;
 use dccp_endpoint::{
-    Config, Endpoint, Feature, Held, NoMemory, Outcome, Phase, Place, Role, Stand,
+    Config, Endpoint, Feature, Held, NoMemory, Outcome, Phase, Place, Role, Stand, Timer,
 };
 use std::alloc::Global;
 use std::test::Fail;
@@ -137,10 +137,44 @@ fn is_connected(world: &World<Kinds>) -> bool {
         && are_frames(world.frames(Side::Server), &OF_THE_SERVER)
 }
 
+// How many Acks the client sends once it is OPEN: with its two frames of the handshake, more than a side has room for
+// at the beginning.
+const ACKS: u64 = 300;
+
+// Their last number. The client's Request has 1,000, and each later frame the next number.
+const LAST_NUMBER: u64 = 1_301;
+
+// The client's timer for an Ack has run out, and the frame with this index, which it sends then, is taken.
+fn acknowledges(world: &mut World<Kinds>, index: u64) -> bool {
+    let timer = Event::Timer {
+        side: Side::Client,
+        timer: Timer::Ack,
+    };
+    matches!(repeat(world, &timer), Some(Seen::Fired(true))) && arrives(world, Side::Client, index)
+}
+
+// So many Acks after the two frames of the handshake.
+fn acknowledges_often(world: &mut World<Kinds>) -> bool {
+    for index in 2..2 + ACKS {
+        if !acknowledges(world, index) {
+            return false;
+        }
+    }
+    true
+}
+
+fn has_sent_all(world: &World<Kinds>) -> bool {
+    match world.frames(Side::Client).last() {
+        Some(last) => last.number.get() == LAST_NUMBER,
+        None => false,
+    }
+}
+
 fn connects_from_the_start(alloc: Global) -> Option<bool> {
     for _ in 0..TRIES {
         if let Ok(mut world) = new_world(alloc) {
-            return Some(connects(&mut world) && is_connected(&world));
+            let connected = connects(&mut world) && is_connected(&world);
+            return Some(connected && acknowledges_often(&mut world) && has_sent_all(&world));
         }
     }
     None

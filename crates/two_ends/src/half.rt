@@ -16,6 +16,9 @@ use seq_circle::{NoMemory, Seq48};
 use std::alloc::Global;
 use std::marker::Model;
 
+// For so many frames there is room from the beginning. A longer run takes more memory as it goes on.
+const USUAL_FRAMES: usize = 256;
+
 #[derive(Drop)]
 pub(crate) struct HalfWorld<C> {
     alloc: Global,
@@ -52,11 +55,13 @@ impl<C: Congestion + Drop> HalfWorld<C> {
         requires { IsTrue (C.control.is_known 2) }
         ensures { IfOk result (λ half. half.value ≡ half_begins C.control config congestion) }
     {
+        let frames = Vec::with_capacity(alloc, USUAL_FRAMES)?;
+        let processed = Vec::with_capacity(alloc, USUAL_FRAMES)?;
         let half = HalfWorld {
             alloc,
             end: Endpoint::new(alloc, config, congestion)?,
-            frames: Vec::new(alloc),
-            processed: Vec::new(alloc),
+            frames,
+            processed,
             spare: Vec::new(alloc),
             out: Outbox::new(),
         };
