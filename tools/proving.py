@@ -58,19 +58,16 @@ def heaviest_of(needed, seconds):
     return [it for it in chain if seconds.get(it, 60) >= HEAVY]
 
 
-def beside(needed, crate):
-    """Returns the crates that neither use a crate nor are below it, in the map's order."""
-
-    def is_above(it, other):
-        return other in needed[it] or any(is_above(below, other) for below in needed[it] if below in needed)
-
-    return [it for it in needed if it != crate and not is_above(it, crate) and not is_above(crate, it)]
+def is_above(needed, crate, other):
+    """Returns whether a crate uses another, itself or by a crate below it."""
+    return other in needed[crate] or any(is_above(needed, it, other) for it in needed[crate] if it in needed)
 
 
-def urgency(needed, crate, seconds):
-    """Returns how many processor seconds the heaviest chain takes that begins with a crate, up to the program."""
-    above = [it for it, below in needed.items() if crate in below]
-    return seconds.get(crate, 60) + max((urgency(needed, it, seconds) for it in above), default=0)
+def beside(needed, crate, later):
+    """Returns the crates that neither use a crate nor are below it, in the map's order: those that a later crate waits for, and the others."""
+    others = [it for it in needed if it != crate and not is_above(needed, it, crate) and not is_above(needed, crate, it)]
+    sooner = [it for it in others if is_above(needed, later, it)]
+    return sooner, [it for it in others if it not in sooner]
 
 
 # How much memory a proof takes at most, in bytes.
