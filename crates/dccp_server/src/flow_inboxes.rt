@@ -162,6 +162,10 @@ impl FlowInboxes {
         ensures room { OnOk result (finds_no_place_by self.old peer bytes.now (Some place) (end_of_peer server.now.room.served.listening.flows peer) ≡ false) }
         ensures unchanged { OnErr result (self.new ≡ self.old) }
     {
+        // Without inboxes the flow need not be looked up.
+        if self.capacity == 0 && self.intakes.is_empty() {
+            return Ok(None);
+        }
         let Some(end) = server.flow(peer) else {
             return Ok(None);
         };
