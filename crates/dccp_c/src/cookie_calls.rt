@@ -15,7 +15,7 @@ use crate::making::{Care, as_server, care_by, configured_by, pseudo_of};
 use crate::sizes::SETTINGS_BYTES;
 use crate::steps::{new_end, receive};
 use crate::{Key, Settings, Wish};
-use dccp_endpoint::{Config, MOST_FRAME_BYTES, Outcome};
+use dccp_endpoint::{Config, DecodedDatagram, MOST_FRAME_BYTES, Outcome};
 use dccp_uses::is_taken;
 use init_cookies::{CookieKeys, FirstRequest, Route, put_request};
 use server_peers::{DatagramRequest, append_cookie, asking_of, opening_of};
@@ -153,7 +153,7 @@ pub extern "C" fn dccp_greet(
         return TOO_LONG;
     }
     let (route, care, keys) = (route_by(settings), care_by(settings), keys_of(keys));
-    let asking = asking_of(now, config.iss, &route, datagram);
+    let asking = asking_of(now, config.iss, &route, &DecodedDatagram::new(datagram));
     greet_asked(alloc, config, &care, &keys, &route, asking, now, frame)
 }
 
@@ -170,7 +170,7 @@ fn opening_brought(
     requires route { route.now ≡ route_by settings.now }
     ensures { result ≡ opening_brought keys.now settings.now now datagram.now }
 {
-    opening_of(now, keys, route, datagram)
+    opening_of(now, keys, route, &DecodedDatagram::new(datagram))
 }
 
 // Leaves the Request of an opening.

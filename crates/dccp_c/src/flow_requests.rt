@@ -12,7 +12,7 @@ use crate::frame::Frame;
 use crate::peer::peer_named;
 use crate::serving::OwnedServer;
 use crate::{ListenerHandle, PeerAddress};
-use dccp_endpoint::MOST_FRAME_BYTES;
+use dccp_endpoint::{DecodedDatagram, MOST_FRAME_BYTES};
 use dccp_listener::Peer;
 use std::alloc::Global;
 
@@ -36,7 +36,10 @@ pub extern "C" fn dccp_listener_asks(
     let Some(serving) = listener.take(alloc) else {
         return NOT_MADE;
     };
-    let asked = serving.server.server().asks(peer_named(peer), datagram);
+    let asked = serving
+        .server
+        .server()
+        .asks(peer_named(peer), &DecodedDatagram::new(datagram));
     listener.put(serving);
     match asked {
         Some(asked) => {
@@ -55,9 +58,13 @@ fn refuse(serving: &mut OwnedServer, peer: Peer, datagram: &[u8], code: u8, now:
     ensures inboxes { serving.new.inboxes ≡ serving.old.inboxes }
     ensures sent { serving.new.out ≡ refused_frame now serving.old.server.server peer datagram.now code }
 {
-    serving
-        .server
-        .refuse(peer, datagram, code, now, &mut serving.out)
+    serving.server.refuse(
+        peer,
+        &DecodedDatagram::new(datagram),
+        code,
+        now,
+        &mut serving.out,
+    )
 }
 
 /// `EventServer::refuse`. Returns DONE, TOO_LONG, NOT_MADE, or NO_CONNECTION if the datagram opens no flow; then no

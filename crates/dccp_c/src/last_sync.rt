@@ -5,6 +5,7 @@ ghost use Rattle.dccp_c.specs.LastSyncs.{client_began_anew, sync_kept, sync_note
 
 use crate::frame::Frame;
 use crate::told::Told;
+use dccp_endpoint::DecodedDatagram;
 use dccp_uses::sync_refused;
 
 /// The last Sync of a server's end, as its owner keeps it: all zeros at first.
@@ -30,7 +31,7 @@ fn was_left_out(told: &Told) -> bool
 }
 
 // Whether a datagram refuses this Sync.
-fn is_refused(last: &LastSync, datagram: &[u8]) -> bool
+fn is_refused(last: &LastSync, datagram: &DecodedDatagram<'_>) -> bool
     ensures { result ≡ refuses_sync (sync_kept last.now) datagram.now }
 {
     if !last.is_there {
@@ -43,7 +44,7 @@ fn is_refused(last: &LastSync, datagram: &[u8]) -> bool
 }
 
 // A datagram was heard, and this frame answers it.
-fn note(last: &mut LastSync, datagram: &[u8], told: &Told, frame: &Frame)
+fn note(last: &mut LastSync, datagram: &DecodedDatagram<'_>, told: &Told, frame: &Frame)
     ensures { sync_kept last.new ≡ sync_noted (sync_kept last.old) datagram.now told.now frame.now.number }
 {
     if was_synced(told) && sync_refused(datagram).is_none() {
@@ -66,7 +67,11 @@ pub extern "C" fn dccp_begins_anew(
     ensures anew { result ≡ client_began_anew (sync_kept last.old) datagram.now told.now }
     ensures last { sync_kept last.new ≡ sync_noted (sync_kept last.old) datagram.now told.now frame.now.number }
 {
-    let begins = (was_synced(told) || was_left_out(told)) && is_refused(last, datagram);
-    note(last, datagram, told, frame);
+    if !was_synced(told) && !was_left_out(told) {
+        return false;
+    }
+    let decoded = DecodedDatagram::new(datagram);
+    let begins = is_refused(last, &decoded);
+    note(last, &decoded, told, frame);
     begins
 }

@@ -38,7 +38,9 @@ use crate::serving::OwnedServer;
 use crate::sizes::{FLOW_LIFE_BYTES, FLOW_RULES_BYTES, VIEW_BYTES};
 use crate::told::{Told, told_arrival, told_heard, told_outcome};
 use crate::{FlowLife, FlowRules, Key, ListenerHandle, PeerAddress, Settings, View, Wish};
-use dccp_endpoint::{MOST_FRAME_BYTES, NoMemory, Outbox, Refusal, Seen, Seq48, UserCall};
+use dccp_endpoint::{
+    DecodedDatagram, MOST_FRAME_BYTES, NoMemory, Outbox, Refusal, Seen, Seq48, UserCall,
+};
 use dccp_listener::{Heard, NoFlow, Peer};
 use dccp_server::{
     Duty, EventServer, FlowDropRecord, FlowInboxes, Meeting, NoNewFlows, Rules, Server, Way,
@@ -177,7 +179,7 @@ fn hear(
     serving: &mut OwnedServer,
     peer: Peer,
     iss: Seq48,
-    datagram: &[u8],
+    datagram: &DecodedDatagram<'_>,
     now: u64,
 ) -> Result<Meeting, NoNewFlows>
     requires { length datagram.now ≤ 2044 }
@@ -211,7 +213,7 @@ fn hear(
 fn settle(
     serving: &mut OwnedServer,
     peer: Peer,
-    datagram: &[u8],
+    datagram: &DecodedDatagram<'_>,
     heard: &Result<Option<Heard>, NoMemory>,
 )
     ensures came { MayDeliver serving.old.inboxes serving.old.server.server peer datagram.now (told_of_arrival heard.now) (record { inboxes = serving.new.inboxes; arrival = serving.new.arrival }) }
@@ -222,7 +224,10 @@ fn settle(
     ensures drops { serving.new.drops ≡ serving.old.drops }
 {
     let server = serving.server.server();
-    serving.arrival = match serving.inboxes.settle(server, peer, datagram, heard) {
+    serving.arrival = match serving
+        .inboxes
+        .settle(server, peer, datagram.bytes(), heard)
+    {
         Ok(kept) => kept,
         Err(NoMemory) => None,
     };
@@ -230,7 +235,13 @@ fn settle(
 
 // The same for a datagram that was heard; `had` says whether its peer had a flow before. What the peer's inbox has to
 // say is added to the frame for the peer.
-fn take_in(serving: &mut OwnedServer, peer: Peer, had: bool, datagram: &[u8], meeting: &Meeting)
+fn take_in(
+    serving: &mut OwnedServer,
+    peer: Peer,
+    had: bool,
+    datagram: &DecodedDatagram<'_>,
+    meeting: &Meeting,
+)
     ensures taken { HasTakenIn (holding_of serving.old) (holding_of serving.new) peer had datagram.now (told_of_arrival meeting.now.arrival.heard) meeting.now.made_room meeting.now.arrival.evicted }
     ensures sent { serving.new.out ≡ flow_speaks serving.new.inboxes serving.new.server.server peer serving.old.out }
     ensures server { serving.new.server ≡ serving.old.server }
@@ -272,11 +283,11 @@ fn hand(
 }
 
 // A datagram that is short enough, at a server, for C, with one search for what is kept of the peer.
-fn serve(
+fn serve_decoded(
     serving: &mut OwnedServer,
     peer: Peer,
     iss: Seq48,
-    datagram: &[u8],
+    datagram: &DecodedDatagram<'_>,
     now: u64,
     frame: &mut Frame,
     told: &mut Told,
@@ -302,6 +313,23 @@ fn serve(
             REFUSED
         }
     }
+}
+
+// The same for its bytes.
+fn serve(
+    serving: &mut OwnedServer,
+    peer: Peer,
+    iss: Seq48,
+    datagram: &[u8],
+    now: u64,
+    frame: &mut Frame,
+    told: &mut Told,
+) -> u32
+    requires { length datagram.now ≤ 2044 }
+    ensures { HearsIfOpen now (holding_of serving.old) (holding_of serving.new) peer iss datagram.now (is_shut_out serving.old.server peer datagram.now) (handed_in frame.new) serving.new.evicted serving.new.way result told.old told.new }
+{
+    let decoded = DecodedDatagram::new(datagram);
+    serve_decoded(serving, peer, iss, &decoded, now, frame, told)
 }
 
 /// `EventServer::arrive`. BUSY if it answers Busy, and REFUSED if no new flows are taken and the datagram would open

@@ -14,7 +14,7 @@ use crate::held::OwnedEnd;
 use crate::making::Care;
 use ccid_two::Kinds;
 use data_dropped::Intake;
-use dccp_endpoint::{Config, NoMemory, Outbox, Phase, UserCall};
+use dccp_endpoint::{Config, DecodedDatagram, NoMemory, Outbox, Phase, UserCall};
 use dccp_uses::{ClientCookie, DropRecord, Due, Pace, Reading, TimedEnd, settle_heard};
 use std::alloc::Global;
 
@@ -119,12 +119,13 @@ pub(crate) fn receive(held: &mut OwnedEnd, datagram: &[u8], now: u64) -> Reading
     ensures step { done held.new.timed held.new.intake held.new.cookie held.new.out result ≡ c_receives datagram.now now (c_end held.old) }
     ensures drops { held.new.drops ≡ record_heard datagram.now held.old.timed held.new.timed held.old.drops }
 {
+    let decoded = DecodedDatagram::new(datagram);
     let before = held.timed.path().reader;
     let was = held.timed.end().phase();
-    let heard = held.timed.receive(datagram, now, &mut held.out);
-    held.cookie.keep(was, held.timed.end().phase(), datagram);
+    let heard = held.timed.receive(&decoded, now, &mut held.out);
+    held.cookie.keep(was, held.timed.end().phase(), &decoded);
     let after = held.timed.path().reader;
-    held.drops.heard(&before, &after, datagram);
+    held.drops.heard(&before, &after, &decoded);
     let arrival = settle_heard(&mut held.intake, &held.timed, datagram, &heard);
     speak(held);
     Reading { heard, arrival }

@@ -1,18 +1,24 @@
 -- A packet that arrived, read once: its type with its fields, its numbers, its options, and where its data lie.
-use Rattle.std.specs.Prelude.{ℕ, ◌-◌, Bool, not, ◌||◌, List, length, Option, Result}
+use Rattle.std.specs.Prelude.{◌≡◌, ◌≤◌, ℕ, ◌-◌, Bool, not, ◌||◌, List, length, Option, Result, Ok, Err}
 use Rattle.seq_circle.specs.Circle.{is_before}
 use Rattle.dccp_options.specs.Grammar.{Entry, options_of}
 use Rattle.dccp_options.specs.declared.option.OptFault.{OptFault}
 use Rattle.dccp_packets.specs.Forms.{ack_near}
-use Rattle.dccp_packets.specs.Grammar.{Parts, packet_type}
+use Rattle.dccp_packets.specs.Grammar.{Parts, decoded, packet_type}
 use Rattle.dccp_packets.specs.Kinds.{is_data, reset_code, service_of}
 use Rattle.dccp_packets.specs.declared.header.PacketType.{PacketType}
+use Rattle.dccp_packets.specs.declared.reading.Malformed.{Malformed}
 use Rattle.dccp_packets.specs.declared.reading.Packet.{Packet}
 use Rattle.dccp_endpoint.specs.End.{EndState, is_live}
 
 -- the parts of a packet, without their places in memory
 abbrev pub parts_of_packet : Packet → Parts
 parts_of_packet p = record { header = p.header; options = p.options.now; payload = p.payload.now }
+
+-- what these bytes were decoded as
+abbrev pub IsReadAs : List ℕ → Result Packet Malformed → Type 0
+IsReadAs bytes (Ok packet) = (decoded bytes ≡ Ok (parts_of_packet packet)) × (length packet.options.now ≤ 1008)
+IsReadAs bytes (Err fault) = decoded bytes ≡ Err fault
 
 -- A packet of the connection, with its numbers in full. Its data lie in the input from the first place up to the second. It is newest if no
 -- number was received before it, or none as great (own).

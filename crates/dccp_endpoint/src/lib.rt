@@ -14,6 +14,7 @@
 mod acting;
 mod config;
 mod connection;
+mod datagram;
 mod endpoint;
 mod exit;
 mod faults;
@@ -29,6 +30,7 @@ mod strangers;
 
 pub use crate::config::{Config, Ports};
 pub use crate::connection::{MOST_DATA_BYTES, applies_in};
+pub use crate::datagram::DecodedDatagram;
 pub use crate::endpoint::Endpoint;
 pub(crate) use crate::exit::Exit;
 pub use crate::feeding::feed;

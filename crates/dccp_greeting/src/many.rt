@@ -3,7 +3,7 @@
 use crate::client::{Client, SERVER_ADDRESS, SERVER_PORT, SERVICE};
 use crate::wire::Wire;
 use arrayvec::ArrayVec;
-use dccp_endpoint::{Lists, MOST_FRAME_BYTES, Outbox, Outcome, Seq48};
+use dccp_endpoint::{DecodedDatagram, Lists, MOST_FRAME_BYTES, Outbox, Outcome, Seq48};
 use dccp_listener::{Heard, ListenConfig, Peer};
 use dccp_server::{Rules, Server};
 use dccp_uses::{Network, Pace};
@@ -42,9 +42,10 @@ impl ServerOfMany {
             return Some(());
         }
         let first = Seq48::new(2_000)?;
+        let decoded = DecodedDatagram::new(datagram);
         let arrival = self
             .server
-            .arrive(peer, first, datagram, now, &mut self.out);
+            .arrive(peer, first, &decoded, now, &mut self.out);
         self.send(network);
         let Ok(Some(Heard::Flow(outcome))) = arrival.heard else {
             // Busy, as a Reset has told the peer; or it was left out, or there was no memory: it counts as lost.

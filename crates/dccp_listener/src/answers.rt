@@ -8,7 +8,7 @@ ghost use Rattle.dccp_endpoint.specs.UserCalls.{seen_of};
 ghost use Rattle.dccp_listener.specs.Chain.{Calls, asked, flow_step};
 
 use ccid_two::Kinds;
-use dccp_endpoint::{Endpoint, NoMemory, Outbox, Outcome, Seen, UserCall};
+use dccp_endpoint::{DecodedDatagram, Endpoint, NoMemory, Outbox, Outcome, Seen, UserCall};
 use dccp_packets::Packet;
 
 /// The end takes a call of its user.
@@ -36,11 +36,15 @@ pub(crate) fn receive_packet(
 }
 
 /// The end hears a datagram.
-pub(crate) fn receive(end: &mut Endpoint<Kinds>, bytes: &[u8], out: &mut Outbox) -> Outcome
-    requires { length bytes.now ≤ 2044 }
-    ensures { record { after = end.new; frame = out.new; answer = result } ≡ receiving kinds_control end.old bytes.now }
+pub(crate) fn receive(
+    end: &mut Endpoint<Kinds>,
+    datagram: &DecodedDatagram<'_>,
+    out: &mut Outbox,
+) -> Outcome
+    requires { length datagram.now ≤ 2044 }
+    ensures { record { after = end.new; frame = out.new; answer = result } ≡ receiving kinds_control end.old datagram.now }
 {
-    end.receive(bytes, out)
+    datagram.reach(end, out)
 }
 
 /// Nothing goes out if there was no memory.

@@ -13,7 +13,7 @@ ghost use Rattle.dccp_listener.specs.declared.peer.Peer.{Peer};
 use crate::Peer;
 use crate::answers::{answer, receive};
 use ccid_two::Kinds;
-use dccp_endpoint::{Endpoint, NoMemory, Outbox, Outcome, Seen, UserCall};
+use dccp_endpoint::{DecodedDatagram, Endpoint, NoMemory, Outbox, Outcome, Seen, UserCall};
 use std::alloc::Global;
 use std::collections::BTreeMap;
 use std::marker::Model;
@@ -70,19 +70,19 @@ fn call_flow(
 fn receive_at(
     flows: &mut BTreeMap<Peer, BoxedEnd>,
     peer: Peer,
-    bytes: &[u8],
+    datagram: &DecodedDatagram<'_>,
     out: &mut Outbox,
 ) -> Option<(Outcome, bool)>
     requires empty { out.old ≡ None }
-    requires short { length bytes.now ≤ 2044 }
-    ensures moves { FlowMoves (λ e. receiving kinds_control e bytes.now) (λ outcome. outcome) (end_of_peer flows.old.entries peer) (end_of_peer flows.new.entries peer) flows.old.entries flows.new.entries peer out.new result }
+    requires short { length datagram.now ≤ 2044 }
+    ensures moves { FlowMoves (λ e. receiving kinds_control e datagram.now) (λ outcome. outcome) (end_of_peer flows.old.entries peer) (end_of_peer flows.new.entries peer) flows.old.entries flows.new.entries peer out.new result }
     ensures others { (other : Peer) → is_peer peer other ≡ false
         → end_of_peer flows.new.entries other ≡ end_of_peer flows.old.entries other }
     ensures count { length flows.new.entries ≡ length flows.old.entries }
 {
     match flows.get_mut(&peer) {
         Some(held) => {
-            let outcome = receive(&mut held.end, bytes, out);
+            let outcome = receive(&mut held.end, datagram, out);
             let over = held.end.phase().is_closed();
             Some((outcome, over))
         }
@@ -129,17 +129,17 @@ pub(crate) fn act_at(
 pub(crate) fn hear_at(
     flows: &mut BTreeMap<Peer, BoxedEnd>,
     peer: Peer,
-    bytes: &[u8],
+    datagram: &DecodedDatagram<'_>,
     out: &mut Outbox,
 ) -> Option<Outcome>
     requires empty { out.old ≡ None }
-    requires short { length bytes.now ≤ 2044 }
-    ensures steps { FlowSteps (λ e. receiving kinds_control e bytes.now) (λ outcome. outcome) (end_of_peer flows.old.entries peer) (end_of_peer flows.new.entries peer) flows.old.entries flows.new.entries peer out.new result }
+    requires short { length datagram.now ≤ 2044 }
+    ensures steps { FlowSteps (λ e. receiving kinds_control e datagram.now) (λ outcome. outcome) (end_of_peer flows.old.entries peer) (end_of_peer flows.new.entries peer) flows.old.entries flows.new.entries peer out.new result }
     ensures others { (other : Peer) → is_peer peer other ≡ false
         → end_of_peer flows.new.entries other ≡ end_of_peer flows.old.entries other }
     ensures count { length flows.new.entries ≤ length flows.old.entries }
 {
-    let Some((outcome, over)) = receive_at(flows, peer, bytes, out) else {
+    let Some((outcome, over)) = receive_at(flows, peer, datagram, out) else {
         return None;
     };
     settle(flows, peer, over);

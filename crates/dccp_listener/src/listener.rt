@@ -6,7 +6,8 @@ use crate::meeting::{arrive, greet_packet, perform};
 use crate::{Act, Heard, ListenConfig, NoFlow, Peer};
 use ccid_two::Kinds;
 use dccp_endpoint::{
-    Endpoint, Feature, NoMemory, Outbox, Outcome, Place, Seen, Seq48, UserCall, Why,
+    DecodedDatagram, Endpoint, Feature, NoMemory, Outbox, Outcome, Place, Seen, Seq48, UserCall,
+    Why,
 };
 use dccp_packets::decode;
 use std::alloc::Global;
@@ -107,13 +108,29 @@ impl Listener {
         ensures turn { IsTurn self.old self.new (arrival peer iss bytes.now out.new result) }
         ensures computed { IfOk result (λ heard. record { flows = self.new.flows; frame = out.new; told = told_of (Ok heard) } ≡ listens self.old peer (Arrives iss bytes.now)) }
     {
+        self.arrive_decoded(peer, iss, &DecodedDatagram::new(bytes), out)
+    }
+
+    /// The same for a datagram that its owner has decoded.
+    pub fn arrive_decoded(
+        &mut self,
+        peer: Peer,
+        iss: Seq48,
+        datagram: &DecodedDatagram<'_>,
+        out: &mut Outbox,
+    ) -> Result<Heard, NoMemory>
+        requires { length datagram.now ≤ 2044 }
+        ensures arrived { Arrived self.old self.new peer iss datagram.now out.new result }
+        ensures turn { IsTurn self.old self.new (arrival peer iss datagram.now out.new result) }
+        ensures computed { IfOk result (λ heard. record { flows = self.new.flows; frame = out.new; told = told_of (Ok heard) } ≡ listens self.old peer (Arrives iss datagram.now)) }
+    {
         arrive(
             self.alloc,
             &self.config,
             &mut self.flows,
             peer,
             iss,
-            bytes,
+            datagram,
             out,
         )
     }

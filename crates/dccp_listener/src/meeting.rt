@@ -20,10 +20,10 @@ use crate::greeting::{greet, refuse_packet};
 use crate::{Heard, ListenConfig, NoFlow, Peer};
 use ccid_two::Kinds;
 use dccp_endpoint::{
-    Config, Endpoint, NoMemory, Outbox, Outcome, ResetCode, Seen, Seq48, UserCall, Why,
-    answer_stranger,
+    Config, DecodedDatagram, Endpoint, NoMemory, Outbox, Outcome, ResetCode, Seen, Seq48, UserCall,
+    Why, answer_stranger,
 };
-use dccp_packets::{Packet, decode};
+use dccp_packets::Packet;
 use std::alloc::Global;
 use std::collections::BTreeMap;
 
@@ -101,21 +101,30 @@ pub(crate) fn arrive(
     flows: &mut BTreeMap<Peer, BoxedEnd>,
     peer: Peer,
     iss: Seq48,
-    bytes: &[u8],
+    datagram: &DecodedDatagram<'_>,
     out: &mut Outbox,
 ) -> Result<Heard, NoMemory>
-    requires { length bytes.now ≤ 2044 }
-    ensures arrived { Arrived (record { config = config.now; flows = flows.old.entries }) (record { config = config.now; flows = flows.new.entries }) peer iss bytes.now out.new result }
-    ensures listens { IfOk result (λ heard. record { flows = flows.new.entries; frame = out.new; told = told_of (Ok heard) } ≡ listens (record { config = config.now; flows = flows.old.entries }) peer (Arrives iss bytes.now)) }
+    requires { length datagram.now ≤ 2044 }
+    ensures arrived { Arrived (record { config = config.now; flows = flows.old.entries }) (record { config = config.now; flows = flows.new.entries }) peer iss datagram.now out.new result }
+    ensures listens { IfOk result (λ heard. record { flows = flows.new.entries; frame = out.new; told = told_of (Ok heard) } ≡ listens (record { config = config.now; flows = flows.old.entries }) peer (Arrives iss datagram.now)) }
     ensures room { length flows.old.entries ≤ config.now.most → length flows.new.entries ≤ config.now.most }
 {
     out.clear();
-    if let Some(outcome) = hear_at(flows, peer, bytes, out) {
+    if let Some(outcome) = hear_at(flows, peer, datagram, out) {
         return Ok(Heard::Flow(outcome));
     }
-    match decode(bytes) {
-        Ok(packet) => meet(alloc, config, flows, peer, iss, &packet, bytes, out),
-        Err(fault) => Ok(Heard::Flow(Outcome::Dropped(Why::Malformed(fault)))),
+    match datagram.packet() {
+        Ok(packet) => meet(
+            alloc,
+            config,
+            flows,
+            peer,
+            iss,
+            packet,
+            datagram.bytes(),
+            out,
+        ),
+        Err(fault) => Ok(Heard::Flow(Outcome::Dropped(Why::Malformed(*fault)))),
     }
 }
 

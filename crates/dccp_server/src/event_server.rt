@@ -6,7 +6,7 @@ ghost use Rattle.server_peers.specs.Events.{evicted_event};
 use crate::duty::Duty;
 use crate::meeting::{Meeting, Way};
 use crate::server::Server;
-use dccp_endpoint::{Outbox, ResetCode, Seen, Seq48, UserCall};
+use dccp_endpoint::{DecodedDatagram, Outbox, ResetCode, Seen, Seq48, UserCall};
 use dccp_listener::{ListenConfig, NoFlow, Peer};
 use dccp_uses::Pace;
 use init_cookies::FirstRequest;
@@ -52,14 +52,19 @@ fn rules_of_opening(rules: Rules, opening: &Option<FirstRequest>) -> Rules
 }
 
 // The life of the flow that would make room for one more of this peer, if all places are taken.
-fn leaver_life(server: &Server, peer: Peer, bytes: &[u8], now: u64) -> Option<Life>
-    requires { length bytes.now ≤ 2044 }
-    ensures { result ≡ leaver_life now server.now peer bytes.now }
+fn leaver_life(
+    server: &Server,
+    peer: Peer,
+    datagram: &DecodedDatagram<'_>,
+    now: u64,
+) -> Option<Life>
+    requires { length datagram.now ≤ 2044 }
+    ensures { result ≡ leaver_life now server.now peer datagram.now }
 {
     if server.has_flow(peer) || !server.is_full() {
         return None;
     }
-    let returned = server.returned(peer, bytes, now);
+    let returned = server.returned(peer, datagram, now);
     let rules = rules_of_opening(server.rules(), &returned);
     match server.leaver(&rules, time_of_opening(now, &returned)) {
         Some(leaver) => Some(server.life(leaver)),
@@ -186,36 +191,43 @@ impl EventServer {
         &mut self,
         peer: Peer,
         iss: Seq48,
-        bytes: &[u8],
+        datagram: &DecodedDatagram<'_>,
         now: u64,
         out: &mut Outbox,
     ) -> Result<Meeting, NoNewFlows>
-        requires { length bytes.now ≤ 2044 }
-        ensures open { OnOk result (is_shut_out self.old peer bytes.now ≡ false) }
-        ensures shut { OnErr result ((is_shut_out self.old peer bytes.now ≡ true) × (self.new ≡ shut_out now self.old peer bytes.now)
-            × (out.new ≡ refused_frame now self.old.server peer bytes.now (number_of_code codes.ConnectionRefused))) }
-        ensures met { IfOk result (λ it. IsMet now self.old.server self.new.server peer iss bytes.now out.new it.arrival.heard it.arrival.evicted it.arrival.anew it.made_room it.way) }
-        ensures way { IfOk result (λ it. may_meet (entry_at now self.old peer iss bytes.now) it.way ≡ true) }
-        ensures told { IfOk result (λ it. self.new ≡ heard_on now self.old self.new.server peer bytes.now (told_of_arrival it.arrival.heard) (room_maker it.made_room it.arrival.evicted) (ends_old it.arrival.anew it.way)) }
+        requires { length datagram.now ≤ 2044 }
+        ensures open { OnOk result (is_shut_out self.old peer datagram.now ≡ false) }
+        ensures shut { OnErr result ((is_shut_out self.old peer datagram.now ≡ true) × (self.new ≡ shut_out now self.old peer datagram.now)
+            × (out.new ≡ refused_frame now self.old.server peer datagram.now (number_of_code codes.ConnectionRefused))) }
+        ensures met { IfOk result (λ it. IsMet now self.old.server self.new.server peer iss datagram.now out.new it.arrival.heard it.arrival.evicted it.arrival.anew it.made_room it.way) }
+        ensures way { IfOk result (λ it. may_meet (entry_at now self.old peer iss datagram.now) it.way ≡ true) }
+        ensures told { IfOk result (λ it. self.new ≡ heard_on now self.old self.new.server peer datagram.now (told_of_arrival it.arrival.heard) (room_maker it.made_room it.arrival.evicted) (ends_old it.arrival.anew it.way)) }
     {
         let code = ResetCode::ConnectionRefused.number();
-        if self.is_shut && self.server.refuse(peer, bytes, code, now, out) {
+        if self.is_shut && self.server.refuse(peer, datagram, code, now, out) {
             self.events = FlowEvents::none();
             return Err(NoNewFlows);
         }
-        Ok(self.hear(peer, iss, bytes, now, out))
+        Ok(self.hear(peer, iss, datagram, now, out))
     }
 
     // The same if it is not refused.
-    fn hear(&mut self, peer: Peer, iss: Seq48, bytes: &[u8], now: u64, out: &mut Outbox) -> Meeting
-        requires { length bytes.now ≤ 2044 }
-        ensures met { IsMet now self.old.server self.new.server peer iss bytes.now out.new result.arrival.heard result.arrival.evicted result.arrival.anew result.made_room result.way }
-        ensures way { may_meet (entry_at now self.old peer iss bytes.now) result.way ≡ true }
-        ensures told { self.new ≡ heard_on now self.old self.new.server peer bytes.now (told_of_arrival result.arrival.heard) (room_maker result.made_room result.arrival.evicted) (ends_old result.arrival.anew result.way) }
+    fn hear(
+        &mut self,
+        peer: Peer,
+        iss: Seq48,
+        datagram: &DecodedDatagram<'_>,
+        now: u64,
+        out: &mut Outbox,
+    ) -> Meeting
+        requires { length datagram.now ≤ 2044 }
+        ensures met { IsMet now self.old.server self.new.server peer iss datagram.now out.new result.arrival.heard result.arrival.evicted result.arrival.anew result.made_room result.way }
+        ensures way { may_meet (entry_at now self.old peer iss datagram.now) result.way ≡ true }
+        ensures told { self.new ≡ heard_on now self.old self.new.server peer datagram.now (told_of_arrival result.arrival.heard) (room_maker result.made_room result.arrival.evicted) (ends_old result.arrival.anew result.way) }
     {
         let was = flow_state(&self.server, peer);
-        let life = leaver_life(&self.server, peer, bytes, now);
-        let meeting = self.meet(peer, iss, bytes, now, out);
+        let life = leaver_life(&self.server, peer, datagram, now);
+        let meeting = self.meet(peer, iss, datagram, now, out);
         let maker = room_maker(meeting.made_room, meeting.arrival.evicted);
         let anew = ends_old(meeting.arrival.anew, meeting.way);
         self.events = events_between(
@@ -230,28 +242,42 @@ impl EventServer {
     }
 
     // The datagram is met, or served without cookies if no new flow is taken.
-    fn meet(&mut self, peer: Peer, iss: Seq48, bytes: &[u8], now: u64, out: &mut Outbox) -> Meeting
-        requires { length bytes.now ≤ 2044 }
-        ensures met { IsMet now self.old.server self.new.server peer iss bytes.now out.new result.arrival.heard result.arrival.evicted result.arrival.anew result.made_room result.way }
-        ensures way { may_meet (entry_at now self.old peer iss bytes.now) result.way ≡ true }
+    fn meet(
+        &mut self,
+        peer: Peer,
+        iss: Seq48,
+        datagram: &DecodedDatagram<'_>,
+        now: u64,
+        out: &mut Outbox,
+    ) -> Meeting
+        requires { length datagram.now ≤ 2044 }
+        ensures met { IsMet now self.old.server self.new.server peer iss datagram.now out.new result.arrival.heard result.arrival.evicted result.arrival.anew result.made_room result.way }
+        ensures way { may_meet (entry_at now self.old peer iss datagram.now) result.way ≡ true }
         ensures rest { self.new ≡ record self.old { server = self.new.server } }
     {
         if self.is_shut {
-            self.server.serve(peer, iss, bytes, now, out)
+            self.server.serve(peer, iss, datagram, now, out)
         } else {
-            self.server.meet(peer, iss, bytes, now, out)
+            self.server.meet(peer, iss, datagram, now, out)
         }
     }
 
     /// Refuses a datagram that would open a flow, in place of `arrive`: `Server::refuse`.
-    pub fn refuse(&mut self, peer: Peer, bytes: &[u8], code: u8, now: u64, out: &mut Outbox) -> bool
-        requires { length bytes.now ≤ 2044 }
-        ensures opens { result ≡ is_some (flow_asked self.old.server.room.served.listening peer bytes.now) }
-        ensures sent { out.new ≡ refused_frame now self.old.server peer bytes.now code }
-        ensures after { self.new ≡ shut_out now self.old peer bytes.now }
+    pub fn refuse(
+        &mut self,
+        peer: Peer,
+        datagram: &DecodedDatagram<'_>,
+        code: u8,
+        now: u64,
+        out: &mut Outbox,
+    ) -> bool
+        requires { length datagram.now ≤ 2044 }
+        ensures opens { result ≡ is_some (flow_asked self.old.server.room.served.listening peer datagram.now) }
+        ensures sent { out.new ≡ refused_frame now self.old.server peer datagram.now code }
+        ensures after { self.new ≡ shut_out now self.old peer datagram.now }
     {
         self.events = FlowEvents::none();
-        self.server.refuse(peer, bytes, code, now, out)
+        self.server.refuse(peer, datagram, code, now, out)
     }
 
     /// Takes no new flows from now on, or takes them again. Present flows go on.

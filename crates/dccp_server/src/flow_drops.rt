@@ -7,10 +7,9 @@ ghost use Rattle.dccp_server.specs.FlowDrops.{flow_drop_code, flow_record_after,
 
 use circular_buffer::HeapCircularBuffer;
 use data_dropped::DropReport;
-use dccp_endpoint::{NoMemory, Seq48};
+use dccp_endpoint::{DecodedDatagram, NoMemory, Seq48};
 use dccp_listener::Peer;
 use dccp_options::options;
-use dccp_packets::decode;
 use dccp_uses::{Reader, new_reach};
 use server_peers::is_peer;
 use std::alloc::Global;
@@ -91,10 +90,16 @@ impl FlowDropRecord {
     }
 
     // The drops that a datagram, which reports from this number downwards, is the first to name.
-    fn note_datagram(&mut self, peer: Peer, counted: Option<Seq48>, ack: Seq48, datagram: &[u8])
+    fn note_datagram(
+        &mut self,
+        peer: Peer,
+        counted: Option<Seq48>,
+        ack: Seq48,
+        datagram: &DecodedDatagram<'_>,
+    )
         ensures { self.new ≡ packet_recorded (flow_recorded peer) counted ack (decoded datagram.now) self.old }
     {
-        let Ok(packet) = decode(datagram) else {
+        let Ok(packet) = datagram.packet() else {
             return;
         };
         let list = options(packet.options, packet.header.kind.packet_type().is_data());
@@ -106,7 +111,13 @@ impl FlowDropRecord {
     /// A peer's flow has heard this datagram. `before` and `after` are what was known of its reader before and after
     /// that (`Path::reader` of its `Upkeep`).
     #[tactic(auto, using(dccp_uses::proofs::Numbering::nothing_new))]
-    pub fn heard(&mut self, peer: Peer, before: &Reader, after: &Reader, datagram: &[u8])
+    pub fn heard(
+        &mut self,
+        peer: Peer,
+        before: &Reader,
+        after: &Reader,
+        datagram: &DecodedDatagram<'_>,
+    )
         ensures { self.new ≡ flow_record_after peer before.now.counted after.now.counted datagram.now self.old }
     {
         let Some(ack) = after.counted else {

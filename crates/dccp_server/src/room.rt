@@ -11,7 +11,7 @@ ghost use Rattle.dccp_server.specs.Serving.{Does, Follows, doing_frame};
 use crate::anew::{begins_anew, refuses_last_sync, signs_noted};
 use crate::lives::{go_on, life_of};
 use crate::timed_listener::TimedListener;
-use dccp_endpoint::{NoMemory, Outbox, Seen, Seq48, Timer, UserCall};
+use dccp_endpoint::{DecodedDatagram, NoMemory, Outbox, Seen, Seq48, Timer, UserCall};
 use dccp_listener::{Heard, NoFlow, Peer};
 use server_peers::{
     Life, Register, Rules, Signs, is_crowd, makes_way, signs_answered, signs_heard, signs_in,
@@ -44,23 +44,23 @@ pub(crate) fn hear(
     life: &Life,
     peer: Peer,
     iss: Seq48,
-    bytes: &[u8],
+    datagram: &DecodedDatagram<'_>,
     now: u64,
     out: &mut Outbox,
 ) -> Result<Heard, NoMemory>
-    requires short { length bytes.now ≤ 2044 }
+    requires short { length datagram.now ≤ 2044 }
     requires living { IsLiving (as_room timed.old lives.old) }
     requires known { life.now ≡ life_of lives.old peer }
-    ensures after { OnOk result (as_room timed.new lives.new ≡ room_does now (as_room timed.old lives.old) peer (Does (Arrives iss bytes.now))) }
-    ensures sent { OnOk result (out.new ≡ (listens timed.old.listening peer (Arrives iss bytes.now)).frame) }
-    ensures told { IfOk result (λ heard. told_of (Ok heard) ≡ (listens timed.old.listening peer (Arrives iss bytes.now)).told) }
+    ensures after { OnOk result (as_room timed.new lives.new ≡ room_does now (as_room timed.old lives.old) peer (Does (Arrives iss datagram.now))) }
+    ensures sent { OnOk result (out.new ≡ (listens timed.old.listening peer (Arrives iss datagram.now)).frame) }
+    ensures told { IfOk result (λ heard. told_of (Ok heard) ≡ (listens timed.old.listening peer (Arrives iss datagram.now)).told) }
     ensures living { IsLiving (as_room timed.new lives.new) }
     ensures unchanged { OnErr result (as_room timed.new lives.new ≡ as_room timed.old lives.old) }
 {
     let had = lives.place_for(peer, Life::none())?;
-    match timed.arrive(peer, iss, bytes, now, out) {
+    match timed.arrive(peer, iss, datagram, now, out) {
         Ok(heard) => {
-            let signs = signs_noted(bytes, signs_heard(&heard));
+            let signs = signs_noted(datagram, signs_heard(&heard));
             go_on(timed, lives, peer, life, signs, now);
             Ok(heard)
         }
@@ -143,18 +143,18 @@ fn make_room(
     leaving: Peer,
     peer: Peer,
     iss: Seq48,
-    bytes: &[u8],
+    datagram: &DecodedDatagram<'_>,
     now: u64,
     out: &mut Outbox,
 ) -> Result<Heard, NoMemory>
-    requires short { length bytes.now ≤ 2044 }
+    requires short { length datagram.now ≤ 2044 }
     requires living { IsLiving (as_room timed.old lives.old) }
     ensures living { IsLiving (as_room timed.new lives.new) }
-    ensures made { IsRoomMade now (as_room timed.old lives.old) (as_room timed.new lives.new) peer iss bytes.now (Some leaving) out.old out.new result }
+    ensures made { IsRoomMade now (as_room timed.old lives.old) (as_room timed.new lives.new) peer iss datagram.now (Some leaving) out.old out.new result }
 {
     forget(timed, lives, leaving, now, out);
     let life = life_of(lives, peer);
-    hear(timed, lives, &life, peer, iss, bytes, now, out)
+    hear(timed, lives, &life, peer, iss, datagram, now, out)
 }
 
 // A peer that has connected again loses its old flow, and the Sync is not sent.
@@ -204,19 +204,19 @@ fn judge(
     heard: Heard,
     peer: Peer,
     iss: Seq48,
-    bytes: &[u8],
+    datagram: &DecodedDatagram<'_>,
     now: u64,
     out: &mut Outbox,
 ) -> HearingResult
-    requires short { length bytes.now ≤ 2044 }
+    requires short { length datagram.now ≤ 2044 }
     requires living { IsLiving (as_room timed.old lives.old) }
     ensures living { IsLiving (as_room timed.new lives.new) }
-    ensures judged { IsJudged now rules.now life.now (as_room timed.old lives.old) (as_room timed.new lives.new) peer iss bytes.now heard out.old out.new result.heard result.evicted result.anew }
+    ensures judged { IsJudged now rules.now life.now (as_room timed.old lives.old) (as_room timed.new lives.new) peer iss datagram.now heard out.old out.new result.heard result.evicted result.anew }
 {
     match heard {
         Heard::Busy => match who_leaves(timed, lives, rules, now) {
             Some(leaving) => HearingResult {
-                heard: make_room(timed, lives, leaving, peer, iss, bytes, now, out),
+                heard: make_room(timed, lives, leaving, peer, iss, datagram, now, out),
                 evicted: Some(leaving),
                 anew: false,
             },
@@ -227,7 +227,7 @@ fn judge(
             },
         },
         Heard::Flow(outcome) => {
-            let anew = begins_anew(rules, life, bytes, signs_in(&outcome));
+            let anew = begins_anew(rules, life, datagram, signs_in(&outcome));
             begin_anew(timed, lives, anew, peer, now, out);
             HearingResult {
                 heard: Ok(Heard::Flow(outcome)),
@@ -246,18 +246,20 @@ fn hear_by(
     life: &Life,
     peer: Peer,
     iss: Seq48,
-    bytes: &[u8],
+    datagram: &DecodedDatagram<'_>,
     now: u64,
     out: &mut Outbox,
 ) -> HearingResult
-    requires short { length bytes.now ≤ 2044 }
+    requires short { length datagram.now ≤ 2044 }
     requires living { IsLiving (as_room timed.old lives.old) }
     requires known { life.now ≡ life_of lives.old peer }
     ensures living { IsLiving (as_room timed.new lives.new) }
-    ensures heard { HasHeard now rules.now (as_room timed.old lives.old) (as_room timed.new lives.new) peer iss bytes.now out.new result.heard result.evicted result.anew }
+    ensures heard { HasHeard now rules.now (as_room timed.old lives.old) (as_room timed.new lives.new) peer iss datagram.now out.new result.heard result.evicted result.anew }
 {
-    match hear(timed, lives, life, peer, iss, bytes, now, out) {
-        Ok(heard) => judge(timed, lives, rules, life, heard, peer, iss, bytes, now, out),
+    match hear(timed, lives, life, peer, iss, datagram, now, out) {
+        Ok(heard) => judge(
+            timed, lives, rules, life, heard, peer, iss, datagram, now, out,
+        ),
         Err(fault) => HearingResult {
             heard: Err(fault),
             evicted: None,
@@ -273,19 +275,19 @@ fn count(
     rules: &Rules,
     life: &Life,
     peer: Peer,
-    bytes: &[u8],
+    datagram: &DecodedDatagram<'_>,
     now: u64,
 ) -> bool
     requires living { IsLiving (as_room timed.old lives.now) }
     requires known { life.now ≡ life_of lives.now peer }
     ensures living { IsLiving (as_room timed.new lives.now) }
-    ensures room { as_room timed.new lives.now ≡ counted_room now rules.now (as_room timed.old lives.now) peer bytes.now }
-    ensures heard { result ≡ is_to_be_heard now rules.now (as_room timed.old lives.now) peer bytes.now }
+    ensures room { as_room timed.new lives.now ≡ counted_room now rules.now (as_room timed.old lives.now) peer datagram.now }
+    ensures heard { result ≡ is_to_be_heard now rules.now (as_room timed.old lives.now) peer datagram.now }
 {
-    if refuses_last_sync(rules, life, bytes) {
+    if refuses_last_sync(rules, life, datagram) {
         return true;
     }
-    timed.admits(peer, bytes, now)
+    timed.admits(peer, datagram, now)
 }
 
 // The result of a datagram that was heard, as one that might have been left out. Nothing goes out if there was no
@@ -317,17 +319,17 @@ pub(crate) fn arrive(
     rules: &Rules,
     peer: Peer,
     iss: Seq48,
-    bytes: &[u8],
+    datagram: &DecodedDatagram<'_>,
     now: u64,
     out: &mut Outbox,
 ) -> ArrivalResult
-    requires short { length bytes.now ≤ 2044 }
+    requires short { length datagram.now ≤ 2044 }
     requires living { IsLiving (as_room timed.old lives.old) }
     ensures living { IsLiving (as_room timed.new lives.new) }
-    ensures arrived { HasArrived now rules.now (as_room timed.old lives.old) (as_room timed.new lives.new) peer iss bytes.now out.new result.heard result.evicted result.anew }
+    ensures arrived { HasArrived now rules.now (as_room timed.old lives.old) (as_room timed.new lives.new) peer iss datagram.now out.new result.heard result.evicted result.anew }
 {
     let life = life_of(lives, peer);
-    if !count(timed, lives, rules, &life, peer, bytes, now) {
+    if !count(timed, lives, rules, &life, peer, datagram, now) {
         out.clear();
         return ArrivalResult {
             heard: Ok(None),
@@ -335,6 +337,6 @@ pub(crate) fn arrive(
             anew: false,
         };
     }
-    let judged = hear_by(timed, lives, rules, &life, peer, iss, bytes, now, out);
+    let judged = hear_by(timed, lives, rules, &life, peer, iss, datagram, now, out);
     as_arrival(&judged, out)
 }

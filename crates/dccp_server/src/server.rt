@@ -8,7 +8,7 @@ use crate::meeting::{Meeting, Way, greet_with_cookie, leave_out};
 use crate::room::{ArrivalResult, arrive, ask, follow, forget, is_crowded, who_leaves};
 use crate::timed_listener::TimedListener;
 use ccid_two::Kinds;
-use dccp_endpoint::{Endpoint, Outbox, Seen, Seq48, UserCall};
+use dccp_endpoint::{DecodedDatagram, Endpoint, Outbox, Seen, Seq48, UserCall};
 use dccp_listener::{Heard, ListenConfig, NoFlow, Peer};
 use dccp_packets::Frame;
 use dccp_uses::{Due, Pace, Reader, Restraint, Upkeep, due_rule, is_taken, restraint_of};
@@ -108,15 +108,15 @@ impl Server {
         &mut self,
         peer: Peer,
         iss: Seq48,
-        bytes: &[u8],
+        datagram: &DecodedDatagram<'_>,
         now: u64,
         out: &mut Outbox,
     ) -> ArrivalResult
-        requires { length bytes.now ≤ 2044 }
-        ensures { IsServed now self.old self.new peer iss bytes.now out.new result.heard result.evicted result.anew }
+        requires { length datagram.now ≤ 2044 }
+        ensures { IsServed now self.old self.new peer iss datagram.now out.new result.heard result.evicted result.anew }
     {
         let was = self.has_flow(peer);
-        let arrival = self.come(peer, iss, bytes, now, out);
+        let arrival = self.come(peer, iss, datagram, now, out);
         let answers = !was && (!self.has_flow(peer) && out.frame().is_some());
         self.strangers = spare(
             &self.rules,
@@ -134,12 +134,12 @@ impl Server {
         &mut self,
         peer: Peer,
         iss: Seq48,
-        bytes: &[u8],
+        datagram: &DecodedDatagram<'_>,
         now: u64,
         out: &mut Outbox,
     ) -> ArrivalResult
-        requires { length bytes.now ≤ 2044 }
-        ensures arrived { HasArrived now self.old.rules self.old.room self.new.room peer iss bytes.now out.new result.heard result.evicted result.anew }
+        requires { length datagram.now ≤ 2044 }
+        ensures arrived { HasArrived now self.old.rules self.old.room self.new.room peer iss datagram.now out.new result.heard result.evicted result.anew }
         ensures rules { self.new.rules ≡ self.old.rules }
         ensures strangers { self.new.strangers ≡ self.old.strangers }
         ensures cookies { self.new.cookies ≡ self.old.cookies }
@@ -151,7 +151,7 @@ impl Server {
             &self.rules,
             peer,
             iss,
-            bytes,
+            datagram,
             now,
             out,
         )
@@ -177,9 +177,14 @@ impl Server {
     }
 
     /// The opening that a datagram brings back, if it brings one.
-    pub(crate) fn returned(&self, peer: Peer, bytes: &[u8], now: u64) -> Option<FirstRequest>
-        requires { length bytes.now ≤ 2044 }
-        ensures { result ≡ returned now self.now peer bytes.now }
+    pub(crate) fn returned(
+        &self,
+        peer: Peer,
+        datagram: &DecodedDatagram<'_>,
+        now: u64,
+    ) -> Option<FirstRequest>
+        requires { length datagram.now ≤ 2044 }
+        ensures { result ≡ returned now self.now peer datagram.now }
     {
         let Some(keys) = &self.keys else {
             return None;
@@ -187,52 +192,64 @@ impl Server {
         if !self.is_unproved(peer) {
             return None;
         }
-        opening_of(now, keys, &route_of(self.timed.config(), peer), bytes)
+        opening_of(now, keys, &route_of(self.timed.config(), peer), datagram)
     }
 
     // Whether a Request of the peer needs no flow.
-    fn needs_no_flow(&self, peer: Peer, bytes: &[u8], now: u64) -> bool
-        ensures { result ≡ needs_no_flow now self.now peer bytes.now (flow_at self.now peer) }
+    fn needs_no_flow(&self, peer: Peer, datagram: &DecodedDatagram<'_>, now: u64) -> bool
+        ensures { result ≡ needs_no_flow now self.now peer datagram.now (flow_at self.now peer) }
     {
         match self.timed.flow(peer) {
             Some(end) => {
                 is_ever_in_use(self.cookies)
-                    && (is_half_open(end.phase()) && !self.would_hear(peer, bytes, now))
+                    && (is_half_open(end.phase()) && !self.would_hear(peer, datagram, now))
             }
             None => is_in_use(self.cookies, is_crowded(&self.timed, &self.lives)),
         }
     }
 
     // Whether a datagram of a flow's peer would be heard.
-    fn would_hear(&self, peer: Peer, bytes: &[u8], now: u64) -> bool
-        ensures { result ≡ is_to_be_heard now self.now.rules self.now.room peer bytes.now }
+    fn would_hear(&self, peer: Peer, datagram: &DecodedDatagram<'_>, now: u64) -> bool
+        ensures { result ≡ is_to_be_heard now self.now.rules self.now.room peer datagram.now }
     {
-        if refuses_last_sync(&self.rules, &life_of(&self.lives, peer), bytes) {
+        if refuses_last_sync(&self.rules, &life_of(&self.lives, peer), datagram) {
             return true;
         }
-        self.timed.would_admit(peer, bytes, now)
+        self.timed.would_admit(peer, datagram, now)
     }
 
     // The kind of a datagram that brings no opening back.
-    fn entry_without(&self, peer: Peer, iss: Seq48, bytes: &[u8], now: u64) -> DatagramKind
-        requires { length bytes.now ≤ 2044 }
-        ensures { result ≡ entry_without now self.now peer iss bytes.now }
+    fn entry_without(
+        &self,
+        peer: Peer,
+        iss: Seq48,
+        datagram: &DecodedDatagram<'_>,
+        now: u64,
+    ) -> DatagramKind
+        requires { length datagram.now ≤ 2044 }
+        ensures { result ≡ entry_without now self.now peer iss datagram.now }
     {
-        if self.keys.is_some() && self.needs_no_flow(peer, bytes, now) {
+        if self.keys.is_some() && self.needs_no_flow(peer, datagram, now) {
             let route = route_of(self.timed.config(), peer);
-            return entry_by(asking_of(now, iss, &route, bytes));
+            return entry_by(asking_of(now, iss, &route, datagram));
         }
         DatagramKind::Plain
     }
 
     // The kind of a datagram.
-    fn entry_met(&self, peer: Peer, iss: Seq48, bytes: &[u8], now: u64) -> DatagramKind
-        requires { length bytes.now ≤ 2044 }
-        ensures { result ≡ entry_met now self.now peer iss bytes.now }
+    fn entry_met(
+        &self,
+        peer: Peer,
+        iss: Seq48,
+        datagram: &DecodedDatagram<'_>,
+        now: u64,
+    ) -> DatagramKind
+        requires { length datagram.now ≤ 2044 }
+        ensures { result ≡ entry_met now self.now peer iss datagram.now }
     {
-        match self.returned(peer, bytes, now) {
+        match self.returned(peer, datagram, now) {
             Some(opening) => DatagramKind::Returns(opening),
-            None => self.entry_without(peer, iss, bytes, now),
+            None => self.entry_without(peer, iss, datagram, now),
         }
     }
 
@@ -251,7 +268,8 @@ impl Server {
         let mut request = Frame::new();
         put_request(&route_of(self.timed.config(), peer), opening, &mut request);
         self.clear(peer, now, out);
-        self.arrive_hurrying(peer, opening.iss(), request.bytes(), opening.time(), out)
+        let datagram = DecodedDatagram::new(request.bytes());
+        self.arrive_hurrying(peer, opening.iss(), &datagram, opening.time(), out)
     }
 
     // A Request arrives while half-open flows are over their time at once.
@@ -259,18 +277,18 @@ impl Server {
         &mut self,
         peer: Peer,
         iss: Seq48,
-        bytes: &[u8],
+        datagram: &DecodedDatagram<'_>,
         now: u64,
         out: &mut Outbox,
     ) -> ArrivalResult
-        requires { length bytes.now ≤ 2044 }
-        ensures opened { IfOk result.heard (λ _. self.new ≡ received_hurrying now self.old peer iss bytes.now) }
-        ensures evicted { IfOk result.heard (λ _. result.evicted ≡ (received_at now (hurrying self.old) peer iss bytes.now).evicted) }
-        ensures unopened { OnErr result.heard (self.new ≡ unreceived_hurrying now self.old peer iss bytes.now result.evicted) }
+        requires { length datagram.now ≤ 2044 }
+        ensures opened { IfOk result.heard (λ _. self.new ≡ received_hurrying now self.old peer iss datagram.now) }
+        ensures evicted { IfOk result.heard (λ _. result.evicted ≡ (received_at now (hurrying self.old) peer iss datagram.now).evicted) }
+        ensures unopened { OnErr result.heard (self.new ≡ unreceived_hurrying now self.old peer iss datagram.now result.evicted) }
     {
         let rules = self.rules;
         self.set_rules(hurried(&rules));
-        let arrival = self.arrive(peer, iss, bytes, now, out);
+        let arrival = self.arrive(peer, iss, datagram, now, out);
         self.set_rules(rules);
         arrival
     }
@@ -309,20 +327,20 @@ impl Server {
         &mut self,
         peer: Peer,
         iss: Seq48,
-        bytes: &[u8],
+        datagram: &DecodedDatagram<'_>,
         now: u64,
         out: &mut Outbox,
     ) -> Meeting
-        requires { length bytes.now ≤ 2044 }
-        ensures met { IsMet now self.old self.new peer iss bytes.now out.new result.arrival.heard result.arrival.evicted result.arrival.anew result.made_room result.way }
-        ensures way { may_meet (entry_met now self.old peer iss bytes.now) result.way ≡ true }
+        requires { length datagram.now ≤ 2044 }
+        ensures met { IsMet now self.old self.new peer iss datagram.now out.new result.arrival.heard result.arrival.evicted result.arrival.anew result.made_room result.way }
+        ensures way { may_meet (entry_met now self.old peer iss datagram.now) result.way ≡ true }
     {
-        match self.entry_met(peer, iss, bytes, now) {
-            DatagramKind::Plain => self.serve(peer, iss, bytes, now, out),
+        match self.entry_met(peer, iss, datagram, now) {
+            DatagramKind::Plain => self.serve(peer, iss, datagram, now, out),
             DatagramKind::TooLong => leave_out(Ok(None), out),
-            DatagramKind::Asks(opening) => self.greet(peer, &opening, iss, bytes, now, out),
+            DatagramKind::Asks(opening) => self.greet(peer, &opening, iss, datagram, now, out),
             DatagramKind::Returns(opening) => self.serve_returned(
-                peer, &opening, iss, bytes, now, out,
+                peer, &opening, iss, datagram, now, out,
             ),
         }
     }
@@ -332,16 +350,16 @@ impl Server {
         &mut self,
         peer: Peer,
         iss: Seq48,
-        bytes: &[u8],
+        datagram: &DecodedDatagram<'_>,
         now: u64,
         out: &mut Outbox,
     ) -> Meeting
-        requires { length bytes.now ≤ 2044 }
-        ensures served { IsServed now self.old self.new peer iss bytes.now out.new result.arrival.heard result.arrival.evicted result.arrival.anew }
+        requires { length datagram.now ≤ 2044 }
+        ensures served { IsServed now self.old self.new peer iss datagram.now out.new result.arrival.heard result.arrival.evicted result.arrival.anew }
         ensures nobody { result.made_room ≡ None }
         ensures plain { result.way ≡ Way.Plain }
     {
-        let arrival = self.arrive(peer, iss, bytes, now, out);
+        let arrival = self.arrive(peer, iss, datagram, now, out);
         Meeting {
             arrival,
             way: Way::Plain,
@@ -355,24 +373,24 @@ impl Server {
         peer: Peer,
         opening: &FirstRequest,
         iss: Seq48,
-        bytes: &[u8],
+        datagram: &DecodedDatagram<'_>,
         now: u64,
         out: &mut Outbox,
     ) -> Meeting
-        requires short { length bytes.now ≤ 2044 }
-        requires asks { entry_met now self.old peer iss bytes.now ≡ DatagramKind.Asks opening.now }
-        ensures met { IsMet now self.old self.new peer iss bytes.now out.new result.arrival.heard result.arrival.evicted result.arrival.anew result.made_room result.way }
+        requires short { length datagram.now ≤ 2044 }
+        requires asks { entry_met now self.old peer iss datagram.now ≡ DatagramKind.Asks opening.now }
+        ensures met { IsMet now self.old self.new peer iss datagram.now out.new result.arrival.heard result.arrival.evicted result.arrival.anew result.made_room result.way }
         ensures way { may_meet (DatagramKind.Asks opening.now) result.way ≡ true }
     {
         let Some(keys) = self.keys else {
-            return self.serve(peer, iss, bytes, now, out);
+            return self.serve(peer, iss, datagram, now, out);
         };
         match greet_with_cookie(&self.timed, &keys, peer, opening, out) {
             Ok(outcome) => {
                 if is_taken(&outcome) {
                     Meeting::unserved(Ok(Some(Heard::Flow(outcome))), Way::Greeted, None)
                 } else {
-                    self.serve(peer, iss, bytes, now, out)
+                    self.serve(peer, iss, datagram, now, out)
                 }
             }
             Err(fault) => leave_out(Err(fault), out),
@@ -385,13 +403,13 @@ impl Server {
         peer: Peer,
         opening: &FirstRequest,
         iss: Seq48,
-        bytes: &[u8],
+        datagram: &DecodedDatagram<'_>,
         now: u64,
         out: &mut Outbox,
     ) -> Meeting
-        requires short { length bytes.now ≤ 2044 }
-        requires returns { entry_met now self.old peer iss bytes.now ≡ DatagramKind.Returns opening.now }
-        ensures met { IsMet now self.old self.new peer iss bytes.now out.new result.arrival.heard result.arrival.evicted result.arrival.anew result.made_room result.way }
+        requires short { length datagram.now ≤ 2044 }
+        requires returns { entry_met now self.old peer iss datagram.now ≡ DatagramKind.Returns opening.now }
+        ensures met { IsMet now self.old self.new peer iss datagram.now out.new result.arrival.heard result.arrival.evicted result.arrival.anew result.made_room result.way }
         ensures way { may_meet (DatagramKind.Returns opening.now) result.way ≡ true }
     {
         let first = self.reopen(peer, opening, now, out);
@@ -403,7 +421,7 @@ impl Server {
             out.clear();
             return Meeting::unserved(Ok(None), Way::Unopened, first.evicted);
         }
-        let mut meeting = self.serve(peer, iss, bytes, now, out);
+        let mut meeting = self.serve(peer, iss, datagram, now, out);
         meeting.way = Way::Reopened;
         meeting.made_room = first.evicted;
         meeting
@@ -611,40 +629,53 @@ impl Server {
 
     /// The Service Code of the flow that a datagram of at most 2,044 bytes would open, so that the owner can decide
     /// whether to accept it; None if it opens none, or the peer has one. Nothing changes.
-    pub fn asks(&self, peer: Peer, bytes: &[u8]) -> Option<u32>
-        requires { length bytes.now ≤ 2044 }
-        ensures { result ≡ flow_asked self.now.room.served.listening peer bytes.now }
+    pub fn asks(&self, peer: Peer, datagram: &DecodedDatagram<'_>) -> Option<u32>
+        requires { length datagram.now ≤ 2044 }
+        ensures { result ≡ flow_asked self.now.room.served.listening peer datagram.now }
     {
         if self.has_flow(peer) {
             return None;
         }
         let mut out = Outbox::new();
-        refuse_stranger(self.timed.config(), peer, bytes, 0, &mut out)
+        refuse_stranger(self.timed.config(), peer, datagram, 0, &mut out)
     }
 
     // Refuses a datagram of a peer that has no flow. Returns whether it would have opened one.
-    fn turn_away(&self, peer: Peer, bytes: &[u8], code: u8, out: &mut Outbox) -> bool
-        requires { length bytes.now ≤ 2044 }
-        ensures opens { result ≡ is_some (flow_asked self.now.room.served.listening peer bytes.now) }
-        ensures sent { out.new ≡ (if result then reset_for code (config_for self.now.room.served.listening.config peer 0 bytes.now) (decoded bytes.now) else None) }
+    fn turn_away(
+        &self,
+        peer: Peer,
+        datagram: &DecodedDatagram<'_>,
+        code: u8,
+        out: &mut Outbox,
+    ) -> bool
+        requires { length datagram.now ≤ 2044 }
+        ensures opens { result ≡ is_some (flow_asked self.now.room.served.listening peer datagram.now) }
+        ensures sent { out.new ≡ (if result then reset_for code (config_for self.now.room.served.listening.config peer 0 datagram.now) (decoded datagram.now) else None) }
     {
         out.clear();
         if self.has_flow(peer) {
             return false;
         }
-        refuse_stranger(self.timed.config(), peer, bytes, code, out).is_some()
+        refuse_stranger(self.timed.config(), peer, datagram, code, out).is_some()
     }
 
     /// Refuses a datagram of at most 2,044 bytes that would open a flow, by a Reset with this code (RFC 4340, section
     /// 5.6), which is one of the answers to strangers that the rules limit. False if it opens none, or the peer has
     /// one; then nothing changes and nothing goes out.
-    pub fn refuse(&mut self, peer: Peer, bytes: &[u8], code: u8, now: u64, out: &mut Outbox) -> bool
-        requires { length bytes.now ≤ 2044 }
-        ensures opens { result ≡ is_some (flow_asked self.old.room.served.listening peer bytes.now) }
-        ensures sent { out.new ≡ refused_frame now self.old peer bytes.now code }
-        ensures after { self.new ≡ refused_server now self.old peer bytes.now }
+    pub fn refuse(
+        &mut self,
+        peer: Peer,
+        datagram: &DecodedDatagram<'_>,
+        code: u8,
+        now: u64,
+        out: &mut Outbox,
+    ) -> bool
+        requires { length datagram.now ≤ 2044 }
+        ensures opens { result ≡ is_some (flow_asked self.old.room.served.listening peer datagram.now) }
+        ensures sent { out.new ≡ refused_frame now self.old peer datagram.now code }
+        ensures after { self.new ≡ refused_server now self.old peer datagram.now }
     {
-        if !self.turn_away(peer, bytes, code, out) {
+        if !self.turn_away(peer, datagram, code, out) {
             return false;
         }
         let spared = answer_spared(&self.rules, &self.strangers, now);

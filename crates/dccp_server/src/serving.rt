@@ -15,7 +15,9 @@ ghost use Rattle.dccp_uses.specs.Upkeeps.{upkeep_begins};
 
 use crate::happening::FlowHappening;
 use ccid_two::Kinds;
-use dccp_endpoint::{Endpoint, Feature, NoMemory, Outbox, Place, Seen, Seq48, Timer, UserCall};
+use dccp_endpoint::{
+    DecodedDatagram, Endpoint, Feature, NoMemory, Outbox, Place, Seen, Seq48, Timer, UserCall,
+};
 use dccp_listener::{Heard, Listener, NoFlow, Peer};
 use dccp_uses::{Due, Pace, Rule, Sight, Upkeep, admit};
 use server_peers::{Register, Ticket};
@@ -93,15 +95,15 @@ pub(crate) fn hear(
     listener: &mut Listener,
     peer: Peer,
     iss: Seq48,
-    bytes: &[u8],
+    datagram: &DecodedDatagram<'_>,
     out: &mut Outbox,
 ) -> Result<Heard, NoMemory>
-    requires { length bytes.now ≤ 2044 }
-    ensures done { IfOk result (λ heard. IsDone listener.old listener.new peer (Arrives iss bytes.now) out.new (told_of (Ok heard))) }
+    requires { length datagram.now ≤ 2044 }
+    ensures done { IfOk result (λ heard. IsDone listener.old listener.new peer (Arrives iss datagram.now) out.new (told_of (Ok heard))) }
     ensures unchanged { OnErr result (listener.new ≡ listener.old) }
     ensures stranger { OnErr result (end_of_peer listener.old.flows peer ≡ None) }
 {
-    listener.arrive(peer, iss, bytes, out)
+    listener.arrive_decoded(peer, iss, datagram, out)
 }
 
 /// The listener takes a call of a peer's end.
@@ -142,16 +144,16 @@ pub(crate) fn count(
     end: &Endpoint<Kinds>,
     upkeeps: &mut Register<Upkeep>,
     peer: Peer,
-    bytes: &[u8],
+    datagram: &DecodedDatagram<'_>,
     pace: Pace,
     now: u64,
 ) -> bool
     requires { IsSome (lookup (is_peer peer) upkeeps.old) }
-    ensures counted { upkeeps.new ≡ insert_entry peer_cmp upkeeps.old peer (upkeep_counted now bytes.now (upkeep_at pace upkeeps.old peer) end.now) }
-    ensures heard { result ≡ (admitted end.now.state (upkeep_at pace upkeeps.old peer).path bytes.now now).heard }
+    ensures counted { upkeeps.new ≡ insert_entry peer_cmp upkeeps.old peer (upkeep_counted now datagram.now (upkeep_at pace upkeeps.old peer) end.now) }
+    ensures heard { result ≡ (admitted end.now.state (upkeep_at pace upkeeps.old peer).path datagram.now now).heard }
 {
     let mut upkeep = upkeep_at(upkeeps, pace, peer);
-    let heard = admit(end, &mut upkeep.path, bytes, now);
+    let heard = admit(end, &mut upkeep.path, datagram, now);
     upkeeps.put(peer, &upkeep);
     heard
 }

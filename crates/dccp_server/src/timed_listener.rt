@@ -6,7 +6,7 @@ use crate::serving::{
     arrange, ask, count, due_of_flow, hear, is_silent, obey_at, place, sight_at, soonest, upkeep_at,
 };
 use ccid_two::Kinds;
-use dccp_endpoint::{Endpoint, NoMemory, Outbox, Outcome, Seen, Seq48, UserCall};
+use dccp_endpoint::{DecodedDatagram, Endpoint, NoMemory, Outbox, Outcome, Seen, Seq48, UserCall};
 use dccp_listener::{Heard, ListenConfig, Listener, NoFlow, Peer};
 use dccp_uses::{Due, Pace, Reader, Upkeep, admit, due_rule};
 use server_peers::Register;
@@ -62,24 +62,24 @@ impl TimedListener {
     /// Counts a datagram of a peer, which takes a token if its numbers would have a Sync answer it. False if there was
     /// none: then it is left out, and no number is used (RFC 4340, section 7.5.4; own). The datagrams of peers without
     /// a flow are not counted.
-    pub fn admits(&mut self, peer: Peer, bytes: &[u8], now: u64) -> bool
-        ensures counted { self.new ≡ served_counted now self.old peer bytes.now }
-        ensures heard { result ≡ is_admitted now self.old peer bytes.now }
+    pub fn admits(&mut self, peer: Peer, datagram: &DecodedDatagram<'_>, now: u64) -> bool
+        ensures counted { self.new ≡ served_counted now self.old peer datagram.now }
+        ensures heard { result ≡ is_admitted now self.old peer datagram.now }
     {
         match self.listener.flow(peer) {
-            Some(end) => count(end, &mut self.upkeeps, peer, bytes, self.pace, now),
+            Some(end) => count(end, &mut self.upkeeps, peer, datagram, self.pace, now),
             None => true,
         }
     }
 
     /// What `admits` would return; nothing is counted.
-    pub fn would_admit(&self, peer: Peer, bytes: &[u8], now: u64) -> bool
-        ensures { result ≡ is_admitted now self.now peer bytes.now }
+    pub fn would_admit(&self, peer: Peer, datagram: &DecodedDatagram<'_>, now: u64) -> bool
+        ensures { result ≡ is_admitted now self.now peer datagram.now }
     {
         match self.listener.flow(peer) {
             Some(end) => {
                 let mut path = self.upkeep(peer).path;
-                admit(end, &mut path, bytes, now)
+                admit(end, &mut path, datagram, now)
             }
             None => true,
         }
@@ -91,21 +91,21 @@ impl TimedListener {
         &mut self,
         peer: Peer,
         iss: Seq48,
-        bytes: &[u8],
+        datagram: &DecodedDatagram<'_>,
         now: u64,
         out: &mut Outbox,
     ) -> Result<Heard, NoMemory>
-        requires { length bytes.now ≤ 2044 }
-        ensures after { OnOk result (self.new ≡ deed_served now self.old peer (Arrives iss bytes.now)) }
-        ensures sent { OnOk result (out.new ≡ (listens self.old.listening peer (Arrives iss bytes.now)).frame) }
-        ensures told { IfOk result (λ heard. told_of (Ok heard) ≡ (listens self.old.listening peer (Arrives iss bytes.now)).told) }
+        requires { length datagram.now ≤ 2044 }
+        ensures after { OnOk result (self.new ≡ deed_served now self.old peer (Arrives iss datagram.now)) }
+        ensures sent { OnOk result (out.new ≡ (listens self.old.listening peer (Arrives iss datagram.now)).frame) }
+        ensures told { IfOk result (λ heard. told_of (Ok heard) ≡ (listens self.old.listening peer (Arrives iss datagram.now)).told) }
         ensures unchanged { OnErr result (self.new ≡ self.old) }
-        ensures wanting { OnErr result (WantsMemory self.old peer (Arrives iss bytes.now)) }
+        ensures wanting { OnErr result (WantsMemory self.old peer (Arrives iss datagram.now)) }
     {
         let was = sight_at(&self.listener, peer);
         let upkeep = upkeep_at(&self.upkeeps, self.pace, peer);
         let had = place(&mut self.upkeeps, self.pace, peer)?;
-        match hear(&mut self.listener, peer, iss, bytes, out) {
+        match hear(&mut self.listener, peer, iss, datagram, out) {
             Ok(heard) => {
                 let happening = arrived_so(was, &heard, is_silent(out));
                 arrange(

@@ -1,16 +1,14 @@
 -- Which datagrams an end does not hear, since it has sent too many Syncs (RFC 4340, section 7.5.4; own).
-use Rattle.std.specs.Prelude.{◌≡◌, ◌≤◌, ℕ, length, Bool, true, false, List, Option, Some, None, Result, Ok, Err, if◌then◌else◌}
+use Rattle.std.specs.Prelude.{ℕ, Bool, true, false, List, Option, Some, None, Result, Ok, Err, if◌then◌else◌}
 use Rattle.dccp_packets.specs.Forms.{ack_near}
 use Rattle.dccp_packets.specs.Grammar.{Parts, decoded, packet_type}
 use Rattle.dccp_packets.specs.declared.header.Kind.{Kind}
 use Rattle.dccp_packets.specs.declared.reading.Malformed.{Malformed}
-use Rattle.dccp_packets.specs.declared.reading.Packet.{Packet}
 use Rattle.validity_windows.specs.Verdict.{verdict}
 use Rattle.validity_windows.specs.declared.marks.Marks.{Marks}
 use Rattle.validity_windows.specs.declared.verdict.Verdict.{Verdict}
 use Rattle.validity_windows.specs.declared.verdict.Verdict.TheVariants.{Valid, SyncFor, Drop}
 use Rattle.dccp_endpoint.specs.End.{EndState}
-use Rattle.dccp_endpoint.specs.Incoming.{parts_of_packet}
 use Rattle.dccp_states.specs.declared.phase.Phase.{Phase}
 use Rattle.dccp_states.specs.declared.phase.Phase.TheVariants as phases
 use Rattle.path_rules.specs.Limits.{far_syncs, is_near_greatest, near_syncs, token_taken}
@@ -32,11 +30,6 @@ has_windows phases.Open = true
 has_windows phases.CloseReq = true
 has_windows phases.Closing = true
 has_windows phases.TimeWait = false
-
--- what these bytes were decoded as
-abbrev pub IsReadAs : List ℕ → Result Packet Malformed → Type 0
-IsReadAs bytes (Ok packet) = (decoded bytes ≡ Ok (parts_of_packet packet)) × (length packet.options.now ≤ 1008)
-IsReadAs bytes (Err fault) = decoded bytes ≡ Err fault
 
 -- the verdict is a Sync
 abbrev pub is_sync_verdict : Verdict → Bool

@@ -5,9 +5,8 @@ ghost use Rattle.dccp_endpoint.specs.Early.{is_part_open};
 ghost use Rattle.dccp_packets.specs.Grammar.{decoded};
 ghost use Rattle.dccp_uses.specs.ClientCookies.{cookie_had, with_cookie};
 
-use dccp_endpoint::{Outbox, Phase, Pseudo};
+use dccp_endpoint::{DecodedDatagram, Outbox, Phase, Pseudo};
 use dccp_options::options;
-use dccp_packets::decode;
 use init_cookies::{CookieOption, append_options, one_cookie};
 use std::marker::Model;
 
@@ -24,12 +23,12 @@ fn is_part_open(phase: Phase) -> bool
 }
 
 // Writes the Init Cookie of a Response as an option, or nothing.
-fn put_cookie(datagram: &[u8], cookie: &mut CookieOption)
+fn put_cookie(datagram: &DecodedDatagram<'_>, cookie: &mut CookieOption)
     requires { length datagram.now ≤ 2044 }
     ensures value { cookie.new.items ≡ cookie_had (decoded datagram.now) }
     ensures short { length cookie.new.items ≤ 255 }
 {
-    match decode(datagram) {
+    match datagram.packet() {
         Ok(packet) => one_cookie(&options(packet.options, false), cookie),
         Err(_) => cookie.clear(),
     }
@@ -78,7 +77,7 @@ impl ClientCookie {
 
     /// A datagram of at most 2,044 bytes has led the end from one phase to another. If it has answered the Request of a
     /// client, its Init Cookie is kept, if it has exactly one (own).
-    pub fn keep(&mut self, was: Phase, is: Phase, datagram: &[u8])
+    pub fn keep(&mut self, was: Phase, is: Phase, datagram: &DecodedDatagram<'_>)
         requires { length datagram.now ≤ 2044 }
         ensures { self.new ≡ cookie_kept was is datagram.now self.old }
     {

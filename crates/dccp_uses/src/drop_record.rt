@@ -8,9 +8,8 @@ use crate::Reader;
 use crate::notice::new_reach;
 use circular_buffer::HeapCircularBuffer;
 use data_dropped::{DropEntry, DropReport};
-use dccp_endpoint::{NoMemory, Seq48};
+use dccp_endpoint::{DecodedDatagram, NoMemory, Seq48};
 use dccp_options::options;
-use dccp_packets::decode;
 use std::alloc::Global;
 use std::marker::Model;
 
@@ -73,10 +72,10 @@ impl DropRecord {
     }
 
     // The drops that a datagram, which reports from this number downwards, is the first to name.
-    fn note_datagram(&mut self, counted: Option<Seq48>, ack: Seq48, datagram: &[u8])
+    fn note_datagram(&mut self, counted: Option<Seq48>, ack: Seq48, datagram: &DecodedDatagram<'_>)
         ensures { self.new ≡ packet_recorded drop_recorded counted ack (decoded datagram.now) self.old }
     {
-        let Ok(packet) = decode(datagram) else {
+        let Ok(packet) = datagram.packet() else {
             return;
         };
         let list = options(packet.options, packet.header.kind.packet_type().is_data());
@@ -88,7 +87,7 @@ impl DropRecord {
     /// An end has heard this datagram. `before` and `after` are what was known of its reader before and after that
     /// (`Path::reader`).
     #[tactic(auto, using(crate::proofs::Numbering::nothing_new))]
-    pub fn heard(&mut self, before: &Reader, after: &Reader, datagram: &[u8])
+    pub fn heard(&mut self, before: &Reader, after: &Reader, datagram: &DecodedDatagram<'_>)
         ensures { self.new ≡ record_after drop_recorded before.now.counted after.now.counted datagram.now self.old }
     {
         let Some(ack) = after.counted else {

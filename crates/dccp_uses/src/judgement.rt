@@ -9,10 +9,9 @@ ghost use Rattle.dccp_uses.specs.Notice.{notice_read, report_base};
 ghost use Rattle.dccp_uses.specs.Numbers.{whole_number};
 ghost use Rattle.dccp_uses.specs.Syncs.{has_windows, notice_judged, number_judged, number_unanswered, unanswered};
 
-use crate::datagram::DecodedDatagram;
 use crate::notice::notice_of;
 use crate::{Notice, Reader};
-use dccp_endpoint::{Congestion, Endpoint, Marks, Phase, Seq48};
+use dccp_endpoint::{Congestion, DecodedDatagram, Endpoint, Marks, Phase, Seq48};
 use dccp_options::options;
 use dccp_packets::{Kind, Number, PacketType};
 use seq_circle::extend;

@@ -20,7 +20,6 @@ mod additive_window;
 mod alarms;
 mod anew;
 mod client_cookie;
-mod datagram;
 mod drop_record;
 mod holding;
 mod judgement;

@@ -7,8 +7,8 @@ use crate::news::{news_if, news_kept};
 use crate::{Alarms, ClientCookie, Due, Network, News, Pace, Path, SendRefusal, TimedEnd};
 use data_dropped::Intake;
 use dccp_endpoint::{
-    AbortFault, CloseFault, Config, Congestion, Endpoint, Feature, MOST_FRAME_BYTES, NoMemory,
-    OpenFault, Outbox, Place, PreferFault, Seq48, Timer,
+    AbortFault, CloseFault, Config, Congestion, DecodedDatagram, Endpoint, Feature,
+    MOST_FRAME_BYTES, NoMemory, OpenFault, Outbox, Place, PreferFault, Seq48, Timer,
 };
 use path_rules::window_within;
 use std::alloc::Global;
@@ -252,11 +252,12 @@ impl<C: Congestion> Session<C> {
         if MOST_FRAME_BYTES < datagram.len() {
             return News::TooLong;
         }
+        let decoded = DecodedDatagram::new(datagram);
         let was = self.timed.end().phase();
         let mut out = Outbox::new();
-        let outcome = self.timed.receive(datagram, now, &mut out);
+        let outcome = self.timed.receive(&decoded, now, &mut out);
         let is = self.timed.end().phase();
-        self.cookie.keep(was, is, datagram);
+        self.cookie.keep(was, is, &decoded);
         let arrival = settle_heard(&mut self.intake, &self.timed, datagram, &outcome);
         self.hand(&mut out, network);
         news_kept(arrival, news_if(outcome, was, is))

@@ -2,10 +2,9 @@
 ghost use Rattle.std.specs.Prelude.{◌≡◌};
 ghost use Rattle.dccp_uses.specs.Syncs.{admitted, admitted_by, admitted_within, sync_bucketed};
 
-use crate::datagram::DecodedDatagram;
 use crate::judgement::judge;
 use crate::{Notice, Path};
-use dccp_endpoint::{Congestion, Endpoint, Seq48};
+use dccp_endpoint::{Congestion, DecodedDatagram, Endpoint, Seq48};
 use path_rules::{far_syncs, is_near_greatest, near_syncs};
 
 // Takes a token for a Sync, if there is one. Returns whether there was.
@@ -48,15 +47,7 @@ fn admit_within(path: &mut Path, number: Option<Seq48>, gsr: Seq48, now: u64) ->
 /// Whether a datagram is heard: one whose numbers would bring a Sync is heard if there is a token for that (own; RFC
 /// 4340, section 7.5.4, limits the Syncs). What it says about the application that reads the end's data is noted, for
 /// `Path::hear`. Its checksum and ports are not checked here: if they are wrong, it is dropped in any case.
-pub fn admit<C: Congestion>(end: &Endpoint<C>, path: &mut Path, datagram: &[u8], now: u64) -> bool
-    ensures heard { result ≡ (admitted end.now.state path.old datagram.now now).heard }
-    ensures path { path.new ≡ (admitted end.now.state path.old datagram.now now).path }
-{
-    admit_decoded(end, path, &DecodedDatagram::new(datagram), now)
-}
-
-/// The same for a datagram that was decoded.
-pub(crate) fn admit_decoded<C: Congestion>(
+pub fn admit<C: Congestion>(
     end: &Endpoint<C>,
     path: &mut Path,
     datagram: &DecodedDatagram<'_>,

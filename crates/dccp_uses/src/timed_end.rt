@@ -2,14 +2,13 @@
 ghost use Rattle.std.specs.Prelude.{◌≡◌, not, is_some};
 
 use crate::alarms::{Alarms, sooner};
-use crate::datagram::DecodedDatagram;
 use crate::reader::restraint_of;
 use crate::rule::{due_rule, obey};
-use crate::syncs::admit_decoded;
+use crate::syncs::admit;
 use crate::{HeardDatagram, Pace, Path, Restraint, Rule, SendRefusal, Sight, Upkeep};
 use dccp_endpoint::{
-    AbortFault, CloseFault, Config, Congestion, Endpoint, Feature, NoMemory, OpenFault, Outbox,
-    Outcome, Place, PreferFault, SendFault, Timer,
+    AbortFault, CloseFault, Config, Congestion, DecodedDatagram, Endpoint, Feature, NoMemory,
+    OpenFault, Outbox, Outcome, Place, PreferFault, SendFault, Timer,
 };
 use std::alloc::Global;
 use std::marker::Model;
@@ -199,18 +198,22 @@ impl<C: Congestion> TimedEnd<C> {
 
     /// Takes a datagram of at most 2,044 bytes from the peer. None if it is left out, since it would be answered by one
     /// Sync too many: then only that limit has changed.
-    pub fn receive(&mut self, datagram: &[u8], now: u64, out: &mut Outbox) -> Option<Outcome>
+    pub fn receive(
+        &mut self,
+        datagram: &DecodedDatagram<'_>,
+        now: u64,
+        out: &mut Outbox,
+    ) -> Option<Outcome>
         requires { length datagram.now ≤ 2044 }
         ensures step { record { timed = self.new; frame = out.new; answer = result } ≡ timed_takes C.control now self.old datagram.now }
         ensures cause { IfSome result (λ outcome. HasCause self.old.end.state datagram.now outcome) }
     {
-        let datagram = DecodedDatagram::new(datagram);
-        let heard = admit_decoded(&self.end, &mut self.upkeep.path, &datagram, now);
+        let heard = admit(&self.end, &mut self.upkeep.path, datagram, now);
         if !heard {
             out.clear();
             return None;
         }
-        Some(self.hear(&datagram, now, out))
+        Some(self.hear(datagram, now, out))
     }
 
     // The end hears a datagram.

@@ -4,10 +4,10 @@ ghost use Rattle.dccp_packets.specs.Grammar.{decoded};
 ghost use Rattle.dccp_endpoint.specs.Incoming.{parts_of_packet};
 ghost use Rattle.server_peers.specs.Requests.{asking_by, asking_of, asking_this, cookie_read, entry_by, opening_in, route_of, travels_by};
 
-use dccp_endpoint::{Pseudo, Seq48};
+use dccp_endpoint::{DecodedDatagram, Pseudo, Seq48};
 use dccp_listener::{ListenConfig, Peer, requested};
 use dccp_options::options;
-use dccp_packets::{Header, Number, Packet, decode};
+use dccp_packets::{Header, Number, Packet};
 use dccp_sum::check;
 use init_cookies::{CookieKeys, FirstRequest, Route, first_cookie};
 
@@ -81,14 +81,19 @@ fn travels_by(route: &Route, bytes: &[u8], header: &Header) -> bool
 
 /// What a datagram of at most 2,044 bytes asks for, if it came by this route and would be answered now under this
 /// number.
-pub fn asking_of(now: u64, iss: Seq48, route: &Route, bytes: &[u8]) -> DatagramRequest
-    requires { length bytes.now ≤ 2044 }
-    ensures { result ≡ asking_of now iss route.now bytes.now }
+pub fn asking_of(
+    now: u64,
+    iss: Seq48,
+    route: &Route,
+    datagram: &DecodedDatagram<'_>,
+) -> DatagramRequest
+    requires { length datagram.now ≤ 2044 }
+    ensures { result ≡ asking_of now iss route.now datagram.now }
 {
-    match decode(bytes) {
+    match datagram.packet() {
         Ok(packet) => {
-            if travels_by(route, bytes, &packet.header) {
-                asking_in(now, iss, &packet)
+            if travels_by(route, datagram.bytes(), &packet.header) {
+                asking_in(now, iss, packet)
             } else {
                 DatagramRequest::Nothing
             }
@@ -113,12 +118,17 @@ fn opening_in(
 }
 
 /// What the Init Cookie of a datagram of at most 2,044 bytes opens, if it has one and came by this route.
-pub fn opening_of(now: u64, keys: &CookieKeys, route: &Route, bytes: &[u8]) -> Option<FirstRequest>
-    requires { length bytes.now ≤ 2044 }
-    ensures { result ≡ opening_in now keys.now route.now (cookie_read (decoded bytes.now)) }
+pub fn opening_of(
+    now: u64,
+    keys: &CookieKeys,
+    route: &Route,
+    datagram: &DecodedDatagram<'_>,
+) -> Option<FirstRequest>
+    requires { length datagram.now ≤ 2044 }
+    ensures { result ≡ opening_in now keys.now route.now (cookie_read (decoded datagram.now)) }
 {
-    match decode(bytes) {
-        Ok(packet) => opening_in(&packet, keys, route, now),
+    match datagram.packet() {
+        Ok(packet) => opening_in(packet, keys, route, now),
         Err(_) => None,
     }
 }

@@ -6,7 +6,7 @@ ghost use Rattle.dccp_packets.specs.Grammar.{decoded};
 ghost use Rattle.dccp_listener.specs.Calls.{reset_for};
 ghost use Rattle.server_peers.specs.Refusals.{opens_by, refusal_frame, service_opened};
 
-use dccp_endpoint::{Config, Outbox, Role, Seq48, answer_stranger};
+use dccp_endpoint::{Config, DecodedDatagram, Outbox, Role, Seq48, answer_stranger};
 use dccp_listener::{ListenConfig, Peer, config_for, refuse_packet};
 use dccp_packets::{Packet, decode};
 
@@ -77,17 +77,17 @@ fn refuse_flow(
 pub fn refuse_stranger(
     config: &ListenConfig,
     peer: Peer,
-    bytes: &[u8],
+    datagram: &DecodedDatagram<'_>,
     code: u8,
     out: &mut Outbox,
 ) -> Option<u32>
-    requires { length bytes.now ≤ 2044 }
-    ensures sent { out.new ≡ (if is_some result then reset_for code (config_for config.now peer 0 bytes.now) (decoded bytes.now) else None) }
-    ensures service { result ≡ service_opened (config_for config.now peer 0 bytes.now) bytes.now }
+    requires { length datagram.now ≤ 2044 }
+    ensures sent { out.new ≡ (if is_some result then reset_for code (config_for config.now peer 0 datagram.now) (decoded datagram.now) else None) }
+    ensures service { result ≡ service_opened (config_for config.now peer 0 datagram.now) datagram.now }
 {
     out.clear();
-    match decode(bytes) {
-        Ok(packet) => refuse_flow(config, peer, &packet, bytes, code, out),
+    match datagram.packet() {
+        Ok(packet) => refuse_flow(config, peer, packet, datagram.bytes(), code, out),
         Err(_) => None,
     }
 }

@@ -4,7 +4,7 @@ ghost use Rattle.dccp_listener.specs.Standing.{IsListening};
 
 use arrayvec::ArrayVec;
 use ccid_two::Kinds;
-use dccp_endpoint::{Config, Endpoint, Frame, Lists, Outbox, Phase, Role, Seq48};
+use dccp_endpoint::{Config, DecodedDatagram, Endpoint, Frame, Lists, Outbox, Phase, Role, Seq48};
 use dccp_listener::{ListenConfig, Peer};
 use dccp_options::options;
 use dccp_packets::decode;
@@ -68,7 +68,8 @@ fn met(server: &mut Server, last: u8, bytes: &[u8], now: u64, out: &mut Outbox) 
         return None;
     }
     let first = Seq48::new(7000)?;
-    Some(server.meet(peer(last), first, bytes, now, out).way)
+    let datagram = DecodedDatagram::new(bytes);
+    Some(server.meet(peer(last), first, &datagram, now, out).way)
 }
 
 fn client(alloc: Global) -> Option<Endpoint<Kinds>> {
@@ -208,7 +209,7 @@ fn told(
         return None;
     }
     let first = Seq48::new(7000)?;
-    match server.arrive(peer(1), first, bytes, 150, out) {
+    match server.arrive(peer(1), first, &DecodedDatagram::new(bytes), 150, out) {
         Ok(meeting) => Some((meeting.way, server.next_event())),
         Err(_) => None,
     }

@@ -3,7 +3,7 @@
 use crate::uses::wire::Wire;
 use ccid_two::Kinds;
 use data_dropped::BufferedEnd;
-use dccp_endpoint::{Config, NoMemory, Outbox, Phase, Role, Timer};
+use dccp_endpoint::{Config, DecodedDatagram, NoMemory, Outbox, Phase, Role, Timer};
 use dccp_uses::{Network, Pace, Restraint, SendRefusal, TimedEnd};
 use std::alloc::Global;
 
@@ -63,7 +63,8 @@ impl Pair {
     fn hear_reader(&mut self, datagram: &[u8]) {
         let mut out = Outbox::new();
         if datagram.len() <= 2_044 {
-            let _ = self.sender.receive(datagram, self.now, &mut out);
+            let decoded = DecodedDatagram::new(datagram);
+            let _ = self.sender.receive(&decoded, self.now, &mut out);
             post(&out, &mut self.to_reader);
         }
     }

@@ -7,4 +7,4 @@ use Rattle.dccp_server.proofs.room.count.Goals as goal
 pub returns-clause-living : goal.returns-clause-living
 returns-clause-living c =
     living_then c.args.now (as_room c.args.timed.now c.args.lives.now) (as_room c.admits.new.self c.args.lives.now) c.args.peer
-    (Spends c.args.bytes.now) (ap (λ (s : ServedListener). as_room s c.args.lives.now) c.admits.ensures.counted) c.requires.living
+    (Spends c.args.datagram.now) (ap (λ (s : ServedListener). as_room s c.args.lives.now) c.admits.ensures.counted) c.requires.living

@@ -16,18 +16,18 @@ pub returns-in-Ok-clause-after : goal.returns-in-Ok-clause-after
 returns-in-Ok-clause-after c =
     room_placed _ c.args.now c.in_ok-had.had c.args.timed.now c.arrive.new.self _ c.args.lives.now c.place_for.new.self
     c.go_on.new.lives c.args.peer c.signs_noted-signs.result
-    (signs_by c.args.timed.now.listening c.args.peer (Arrives c.args.iss c.args.bytes.now)) c.args.life.now c.in_ok-had.ensures.placed
+    (signs_by c.args.timed.now.listening c.args.peer (Arrives c.args.iss c.args.datagram.now)) c.args.life.now c.in_ok-had.ensures.placed
     c.in-Ok.ensures.after c.go_on.ensures
-    (c.signs_noted-signs.ensures ∙ ap (signs_noted c.args.bytes.now) (c.signs_heard.ensures ∙ ap signs_of c.in-Ok.ensures.told)) c.requires.known
+    (c.signs_noted-signs.ensures ∙ ap (signs_noted c.args.datagram.now) (c.signs_heard.ensures ∙ ap signs_of c.in-Ok.ensures.told)) c.requires.known
 
 pub returns-in-Ok-clause-living : goal.returns-in-Ok-clause-living
 returns-in-Ok-clause-living c =
-    living_then c.args.now _ _ c.args.peer (Does (Arrives c.args.iss c.args.bytes.now))
+    living_then c.args.now _ _ c.args.peer (Does (Arrives c.args.iss c.args.datagram.now))
     (room_placed _ c.args.now c.in_ok-had.had c.args.timed.now c.arrive.new.self _ c.args.lives.now c.place_for.new.self
     c.go_on.new.lives c.args.peer c.signs_noted-signs.result
-    (signs_by c.args.timed.now.listening c.args.peer (Arrives c.args.iss c.args.bytes.now)) c.args.life.now c.in_ok-had.ensures.placed
+    (signs_by c.args.timed.now.listening c.args.peer (Arrives c.args.iss c.args.datagram.now)) c.args.life.now c.in_ok-had.ensures.placed
     c.in-Ok.ensures.after c.go_on.ensures
-    (c.signs_noted-signs.ensures ∙ ap (signs_noted c.args.bytes.now) (c.signs_heard.ensures ∙ ap signs_of c.in-Ok.ensures.told)) c.requires.known)
+    (c.signs_noted-signs.ensures ∙ ap (signs_noted c.args.datagram.now) (c.signs_heard.ensures ∙ ap signs_of c.in-Ok.ensures.told)) c.requires.known)
     c.requires.living
 
 pub returns-in-Err-clause-unchanged : goal.returns-in-Err-clause-unchanged

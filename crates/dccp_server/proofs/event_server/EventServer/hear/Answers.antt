@@ -6,11 +6,11 @@ use Rattle.dccp_server.proofs.event_server.EventServer.hear.Goals as goal
 
 pub returns-clause-told : goal.returns-clause-told
 returns-clause-told c =
-    heard_as c.args.now c.args.self.now c.self-2.inside.server c.args.peer c.args.bytes.now (told_of_arrival c.meet-meeting.result.arrival.heard)
+    heard_as c.args.now c.args.self.now c.self-2.inside.server c.args.peer c.args.datagram.now (told_of_arrival c.meet-meeting.result.arrival.heard)
     (room_maker c.meet-meeting.result.made_room c.meet-meeting.result.arrival.evicted) c.room_maker-maker.result
     (ends_old c.meet-meeting.result.arrival.anew c.meet-meeting.result.way) c.ends_old-anew.result c.flow_state-was.result c.flow_state.result c.data_told.result
     c.ending_heard.result c.leaver_life-life.result c.evicted_event.result c.events_between-self-inside.result c.self-2.inside.is_shut
     c.events_between-self-inside.ensures (c.flow_state-was.ensures ∙ ap (λ (w : WatchedServer). flow_state w.server.room c.args.peer) c.self.view_is)
     c.flow_state.ensures c.data_told.ensures c.ending_heard.ensures c.ends_old-anew.ensures c.evicted_event.ensures
-    (c.leaver_life-life.ensures ∙ ap (λ (w : WatchedServer). leaver_life c.args.now w.server c.args.peer c.args.bytes.now) c.self.view_is) c.room_maker-maker.ensures
+    (c.leaver_life-life.ensures ∙ ap (λ (w : WatchedServer). leaver_life c.args.now w.server c.args.peer c.args.datagram.now) c.self.view_is) c.room_maker-maker.ensures
     (ap (λ (w : WatchedServer). w.is_shut) c.self-2.view_is ∙ ap (λ (w : WatchedServer). w.is_shut) c.meet-meeting.ensures.rest)

@@ -13,7 +13,7 @@ returns-clause-opened c =
     c.set_rules.ensures ∙ ap (λ (r : Rules). going_by r c.args.self.now) (c.hurried.ensures ∙ ap hurried rules-are) in
     let last-is : c.set_rules-2.new.self ≡ going_by c.args.self.now.rules c.arrive-arrival.new.self =
     c.set_rules-2.ensures ∙ ap (λ (r : Rules). going_by r c.arrive-arrival.new.self) rules-are in
-    hurried_open c.args.now c.args.self.now c.set_rules.new.self c.arrive-arrival.new.self c.set_rules-2.new.self c.args.peer c.args.iss c.args.bytes.now
+    hurried_open c.args.now c.args.self.now c.set_rules.new.self c.arrive-arrival.new.self c.set_rules-2.new.self c.args.peer c.args.iss c.args.datagram.now
     c.arrive-arrival.new.out c.arrive-arrival.result.evicted c.arrive-arrival.result.anew mid-is last-is c.arrive-arrival.result.heard
     c.arrive-arrival.ensures
 
@@ -24,7 +24,7 @@ returns-clause-evicted c =
     c.set_rules.ensures ∙ ap (λ (r : Rules). going_by r c.args.self.now) (c.hurried.ensures ∙ ap hurried rules-are) in
     let last-is : c.set_rules-2.new.self ≡ going_by c.args.self.now.rules c.arrive-arrival.new.self =
     c.set_rules-2.ensures ∙ ap (λ (r : Rules). going_by r c.arrive-arrival.new.self) rules-are in
-    hurried_maker c.args.now c.args.self.now c.set_rules.new.self c.arrive-arrival.new.self c.set_rules-2.new.self c.args.peer c.args.iss c.args.bytes.now
+    hurried_maker c.args.now c.args.self.now c.set_rules.new.self c.arrive-arrival.new.self c.set_rules-2.new.self c.args.peer c.args.iss c.args.datagram.now
     c.arrive-arrival.new.out c.arrive-arrival.result.evicted c.arrive-arrival.result.anew mid-is last-is c.arrive-arrival.result.heard
     c.arrive-arrival.ensures
 
@@ -35,6 +35,6 @@ returns-clause-unopened c =
     c.set_rules.ensures ∙ ap (λ (r : Rules). going_by r c.args.self.now) (c.hurried.ensures ∙ ap hurried rules-are) in
     let last-is : c.set_rules-2.new.self ≡ going_by c.args.self.now.rules c.arrive-arrival.new.self =
     c.set_rules-2.ensures ∙ ap (λ (r : Rules). going_by r c.arrive-arrival.new.self) rules-are in
-    hurried_shut c.args.now c.args.self.now c.set_rules.new.self c.arrive-arrival.new.self c.set_rules-2.new.self c.args.peer c.args.iss c.args.bytes.now
+    hurried_shut c.args.now c.args.self.now c.set_rules.new.self c.arrive-arrival.new.self c.set_rules-2.new.self c.args.peer c.args.iss c.args.datagram.now
     c.arrive-arrival.new.out c.arrive-arrival.result.evicted c.arrive-arrival.result.anew mid-is last-is c.arrive-arrival.result.heard
     c.arrive-arrival.ensures

@@ -18,6 +18,6 @@ returns-then-is_taken-clause-met c =
     (λ (x : RuledRoom). (greets x.room.served.listening c.args.peer c.args.opening.now.iss (request_at x c.args.peer c.args.opening.now)).answer)
     c.self.view_is in
     let taken : is_taken c.in-Ok.outcome ≡ true = search rules in
-    greeted c.args.now c.args.self.now c.args.peer c.args.iss c.args.bytes.now c.greet_with_cookie.new.out c.unserved.result.arrival.heard
+    greeted c.args.now c.args.self.now c.args.peer c.args.iss c.args.datagram.now c.greet_with_cookie.new.out c.unserved.result.arrival.heard
     c.unserved.result.arrival.evicted c.unserved.result.arrival.anew c.unserved.result.made_room c.unserved.result.way c.in-Some.keys c.args.opening.now
     c.in-Ok.outcome c.unserved.ensures.way keys c.requires.asks frame c.unserved.ensures.heard told taken (c.unserved.ensures.evicted, c.unserved.ensures.anew, c.unserved.ensures.room)

@@ -10,12 +10,13 @@ use Rattle.dccp_server.proofs.server.Server.hear_again.Goals as goal
 
 pub returns-clause-unopened : goal.returns-clause-unopened
 returns-clause-unopened c =
-    let request : c.bytes.result.now ≡ request_at c.args.self.now c.args.peer c.args.opening.now =
-    c.bytes.ensures.value
+    let request : c.new-datagram.result ≡ request_at c.args.self.now c.args.peer c.args.opening.now =
+    c.new-datagram.ensures
+    ∙ c.bytes.ensures.value
     ∙ c.put_request.ensures
     ∙ ap (λ (r : Route). request_bytes r c.args.opening.now)
     (c.route_of.ensures ∙ ap (λ (config : ListenConfig). route_of config c.args.peer) c.config.ensures
     ∙ ap (λ (x : RuledRoom). route_to x c.args.peer) c.self.view_is) in
     unopened c.args.now c.args.self.now c.clear.new.self c.arrive_hurrying.new.self c.args.peer c.args.opening.now c.time.result c.iss.result
-    c.bytes.result.now c.arrive_hurrying.result.heard c.arrive_hurrying.result.evicted c.arrive_hurrying.ensures.unopened c.time.ensures c.clear.ensures
+    c.new-datagram.result c.arrive_hurrying.result.heard c.arrive_hurrying.result.evicted c.arrive_hurrying.ensures.unopened c.time.ensures c.clear.ensures
     c.iss.ensures request

@@ -11,9 +11,9 @@ count-requires c =
 pub invariant_of-self : goal.invariant_of-self
 invariant_of-self c =
     let s : ServedListener = served c.self.inside.listener c.self.inside.pace c.self.inside.upkeeps in
-    tied_then c.args.now s _ c.args.peer (Spends c.args.bytes.now)
+    tied_then c.args.now s _ c.args.peer (Spends c.args.datagram.now)
     (ap (λ (t : Upkeeps). served c.self.inside.listener c.self.inside.pace t) c.count.ensures.counted
     ∙ sym
-    (ap (λ (x : Option FlowEnd). served_counted_by c.args.now s c.args.peer c.args.bytes.now (upkeep_at s.pace s.upkeeps c.args.peer) x)
+    (ap (λ (x : Option FlowEnd). served_counted_by c.args.now s c.args.peer c.args.datagram.now (upkeep_at s.pace s.upkeeps c.args.peer) x)
     c.in-Some.ensures.value))
     c.self.invariant

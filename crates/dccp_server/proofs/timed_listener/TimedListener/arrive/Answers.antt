@@ -13,10 +13,10 @@ arrange-requires c = has_place _ c.place.new.upkeeps c.args.peer c.in_ok-had.ens
 
 -- what is kept goes on with the end
 goes : (c : goal.After-arrange) → served c.hear.new.listener c.self.inside.pace c.arrange.new.upkeeps
-    ≡ deed_served c.args.now (served c.self.inside.listener c.self.inside.pace c.self.inside.upkeeps) c.args.peer (Arrives c.args.iss c.args.bytes.now)
+    ≡ deed_served c.args.now (served c.self.inside.listener c.self.inside.pace c.self.inside.upkeeps) c.args.peer (Arrives c.args.iss c.args.datagram.now)
 goes c =
     arrival_goes_on c.args.now c.self.inside.listener c.self.inside.pace c.self.inside.upkeeps c.arrange.new.upkeeps c.args.peer
-    _ c.in_ok-had.had c.place.new.upkeeps c.hear.new.listener c.args.iss c.args.bytes.now c.hear.new.out (told_of (Ok c.in-Ok.heard))
+    _ c.in_ok-had.had c.place.new.upkeeps c.hear.new.listener c.args.iss c.args.datagram.now c.hear.new.out (told_of (Ok c.in-Ok.heard))
     c.upkeep_at-upkeep.result c.arrived_so-happening.result c.sight_at-was.result c.is_silent.result c.in_ok-had.ensures.placed c.in-Ok.ensures.done
     c.arrange.ensures c.upkeep_at-upkeep.ensures c.sight_at-was.ensures c.is_silent.ensures c.arrived_so-happening.ensures
 
@@ -24,11 +24,11 @@ pub returns-in-Ok-clause-after : goal.returns-in-Ok-clause-after
 returns-in-Ok-clause-after c =
     subst
     (λ (x : ServedListener).
-    served c.hear.new.listener c.self.inside.pace c.arrange.new.upkeeps ≡ deed_served c.args.now x c.args.peer (Arrives c.args.iss c.args.bytes.now))
+    served c.hear.new.listener c.self.inside.pace c.arrange.new.upkeeps ≡ deed_served c.args.now x c.args.peer (Arrives c.args.iss c.args.datagram.now))
     c.self.view_is (goes c)
 
 pub invariant_of-self-in-Ok : goal.invariant_of-self-in-Ok
-invariant_of-self-in-Ok c = tied_then c.args.now _ _ c.args.peer (Does (Arrives c.args.iss c.args.bytes.now)) (goes c) c.self.invariant
+invariant_of-self-in-Ok c = tied_then c.args.now _ _ c.args.peer (Does (Arrives c.args.iss c.args.datagram.now)) (goes c) c.self.invariant
 
 -- the place is taken back
 stays : (c : goal.After-take_back) → served c.hear.new.listener c.self.inside.pace c.take_back.new.self

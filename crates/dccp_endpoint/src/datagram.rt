@@ -1,21 +1,23 @@
 //! A datagram that is decoded once.
 ghost use Rattle.std.specs.Prelude.{◌≡◌, ◌≤◌, length};
-ghost use Rattle.dccp_uses.specs.Syncs.{IsReadAs};
+ghost use Rattle.dccp_endpoint.specs.Incoming.{IsReadAs};
 
-use dccp_endpoint::{Congestion, Endpoint, Outbox, Outcome};
-use dccp_packets::{Malformed, Packet, decode};
+use crate::endpoint::Endpoint;
+use congestion_trait::Congestion;
+use dccp_packets::{Malformed, Outbox, Packet, decode};
+use dccp_states::Outcome;
 use std::marker::Model;
 
-/// A datagram that has arrived, decoded once for the rules of its path and for its end. Contracts see its bytes.
+/// A datagram that has arrived, decoded once for all who look at it: an end, and its owner. Contracts see its bytes.
 #[derive(Drop)]
-pub(crate) struct DecodedDatagram<'a> {
+pub struct DecodedDatagram<'a> {
     bytes: &'a [u8],
     packet: Result<Packet<'a>, Malformed>,
 }
 
 impl<'a> Model for DecodedDatagram<'a> {
     ghost use Rattle.std.specs.Prelude.{List, ℕ};
-    ghost use Rattle.dccp_uses.specs.Syncs.{IsReadAs};
+    ghost use Rattle.dccp_endpoint.specs.Incoming.{IsReadAs};
 
     ghost Value = { List ℕ };
 
@@ -29,7 +31,8 @@ impl<'a> DecodedDatagram<'a> {
     ghost use Rattle.dccp_endpoint.specs.Outcomes.{HasCause};
     ghost use Rattle.dccp_endpoint.specs.Receiving.{receives};
 
-    pub(crate) fn new(bytes: &'a [u8]) -> DecodedDatagram<'a>
+    /// Decodes these bytes.
+    pub fn new(bytes: &'a [u8]) -> DecodedDatagram<'a>
         ensures { result ≡ bytes.now }
     {
         DecodedDatagram {
@@ -38,15 +41,23 @@ impl<'a> DecodedDatagram<'a> {
         }
     }
 
+    /// Its bytes.
+    pub fn bytes(&self) -> &'a [u8]
+        ensures { result.now ≡ self.now }
+    {
+        self.bytes
+    }
+
     /// The packet, or why it is none.
-    pub(crate) fn packet(&self) -> &Result<Packet<'a>, Malformed>
+    pub fn packet(&self) -> &Result<Packet<'a>, Malformed>
         ensures { IsReadAs self.now result.now }
     {
         &self.packet
     }
 
-    /// An end hears it.
-    pub(crate) fn reach<C: Congestion>(&self, end: &mut Endpoint<C>, out: &mut Outbox) -> Outcome
+    /// An end hears it, as [`Endpoint::receive`] takes its bytes.
+    #[inline]
+    pub fn reach<C: Congestion>(&self, end: &mut Endpoint<C>, out: &mut Outbox) -> Outcome
         requires { length self.now ≤ 2044 }
         ensures step { record { after = end.new; frame = out.new; answer = result } ≡ with_control C.control end.old.congestion (receives end.old.state self.now) }
         ensures cause { HasCause end.old.state self.now result }
