@@ -5,7 +5,7 @@ ghost use Rattle.dccp_endpoint.specs.Incoming.{IsReadAs};
 use crate::endpoint::Endpoint;
 use congestion_trait::Congestion;
 use dccp_packets::{Malformed, Outbox, Packet, decode};
-use dccp_states::Outcome;
+use dccp_states::{Outcome, Why};
 use std::marker::Model;
 
 /// A datagram that has arrived, decoded once for all who look at it: an end, and its owner. Contracts see its bytes.
@@ -57,6 +57,7 @@ impl<'a> DecodedDatagram<'a> {
 
     /// An end hears it, as [`Endpoint::receive`] takes its bytes.
     #[inline]
+    #[tactic(auto, unfolding(crate::specs::Receiving::receives))]
     pub fn reach<C: Congestion>(&self, end: &mut Endpoint<C>, out: &mut Outbox) -> Outcome
         requires { length self.now ≤ 2044 }
         ensures step { record { after = end.new; frame = out.new; answer = result } ≡ with_control C.control end.old.congestion (receives end.old.state self.now) }
@@ -64,7 +65,10 @@ impl<'a> DecodedDatagram<'a> {
     {
         match &self.packet {
             Ok(packet) => end.receive_packet(packet, self.bytes, out),
-            Err(_) => end.receive(self.bytes, out),
+            Err(fault) => {
+                out.clear();
+                Outcome::Dropped(Why::Malformed(*fault))
+            }
         }
     }
 }
