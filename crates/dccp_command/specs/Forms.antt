@@ -1,7 +1,7 @@
 -- What each form of the tool's words does with the input that it reads (own).
 use Rattle.std.specs.Prelude.{◌≡◌, ℕ, Bool, true, false, List, Option, Some, String}
 use Rattle.std.specs.declared.alloc.Global.{Global}
-use Rattle.dccp_command.specs.CampaignText.{campaign_text}
+use Rattle.dccp_command.specs.CampaignText.{AnswersUnread, campaign_text}
 use Rattle.tool_jobs.specs.Transcript.{SafeThroughout, transcript, is_refused, accepted_bytes}
 use Rattle.tool_jobs.specs.Bare.{replay_text, replay_refused, replay_accepted}
 use Rattle.tool_jobs.specs.Buffered.{buffered_text, buffered_refused, buffered_accepted}
@@ -12,7 +12,7 @@ use Rattle.tool_forms.specs.Words.{form_of}
 use Rattle.tool_forms.specs.declared.campaign_words.Campaign.{Campaign}
 use Rattle.tool_forms.specs.declared.words.Form.{Form}
 use Rattle.tool_forms.specs.declared.words.Form.TheVariants as form
-use Rattle.tool_text.specs.Ends.{Answers, IsAnswered, StopsWithin}
+use Rattle.tool_text.specs.Ends.{Answers, EndsForCause, IsAnswered, StopsWithin}
 use Rattle.tool_text.specs.declared.output.status.JobEnd.{JobEnd}
 
 -- Only `campaign` reads no input.
@@ -80,3 +80,11 @@ pub record DoesForm (form : Form) (bytes : List ℕ) (result : JobEnd) (left bef
 abbrev pub OnForm : Form → (Campaign → Type 0) → Type 0 → Type 0
 OnForm (form.Campaign campaign) OfCampaign OfReader = OfCampaign campaign
 OnForm _ OfCampaign OfReader = OfReader
+
+-- How a form acts on its source and sink: a campaign leaves the input as it was, and answers it unread; any other form does what it does with the
+-- bytes of the input, where they are known. Each ends for a cause.
+pub record PerformsForm (form : Form) (result : JobEnd) (IsUnread : Type 0) (input left before after : Option (List ℕ)) (source_failed sink_failed : Type 0)
+    : Type 0 where
+  pub does : OnForm form (λ campaign. IsUnread × AnswersUnread (campaign_text campaign) result before after sink_failed)
+      ((bytes : List ℕ) → input ≡ Some bytes → DoesForm form bytes result left before after)
+  pub cause : EndsForCause result source_failed sink_failed

@@ -1,9 +1,9 @@
 //! The tool as one call: a form of its words over a source and a sink.
-ghost use Rattle.std.specs.Prelude.{◌≡◌, ◌⊎◌, ℕ, List, Some, None, true, false};
+ghost use Rattle.std.specs.Prelude.{◌≡◌, ◌⊎◌, Some, None, true, false};
 ghost use Rattle.dccp_io.specs.Counts.{Rose};
 ghost use Rattle.tool_jobs.specs.Transcript.{SafeThroughout};
 ghost use Rattle.dccp_command.specs.CampaignText.{AnswersUnread, campaign_text};
-ghost use Rattle.dccp_command.specs.Forms.{DoesForm, OnForm, OnInput, form_accepted, form_reads_past, form_text, is_form_refused, reads_input};
+ghost use Rattle.dccp_command.specs.Forms.{OnInput, PerformsForm, form_accepted, form_reads_past, form_text, is_form_refused, reads_input};
 ghost use Rattle.tool_forms.specs.Words.{IsFormWithinBounds, OnRun, form_of, has_settings, usage};
 ghost use Rattle.tool_text.specs.Ends.{SinkFails, IsWritten, IsAnswered, OnJobEnd, Answers, StopsWithin, EndsForCause};
 
@@ -65,10 +65,27 @@ pub fn dccp<R: Threads + Sync, G: Gate + Sync, S: Source, K: Sink>(
         → OnJobEnd result (λ end. EndsForCause end (Rose (S.faults input.old) (S.faults input.new)) (SinkFails K.faults K.empty_takes output.old output.new)) }
 {
     match form_of(alloc, words) {
-        Ok(Some(form)) => perform(rt, alloc, gate, form, input, output).status(),
+        Ok(Some(form)) => answer_form(rt, alloc, gate, form, input, output),
         Ok(None) => refuse_words(output),
         Err(_) => Status::Memory,
     }
+}
+
+// Answers words that are a form: the program ends as the form's job does.
+#[tactic(auto, using(crate::proofs::FormEnds::ends_as_its_job))]
+fn answer_form<R: Threads + Sync, G: Gate + Sync, S: Source, K: Sink>(
+    rt: &R,
+    alloc: Global,
+    gate: &G,
+    form: Form,
+    input: &mut S,
+    output: &mut K,
+) -> Status
+    requires { IsFormWithinBounds form }
+    ensures { OnJobEnd result (λ end. PerformsForm form end (input.new ≡ input.old) (S.left input.old) (S.left input.new) (K.taken output.old) (K.taken output.new)
+        (Rose (S.faults input.old) (S.faults input.new)) (SinkFails K.faults K.empty_takes output.old output.new)) }
+{
+    perform(rt, alloc, gate, form, input, output).status()
 }
 
 // Does what a form asks for.
@@ -81,10 +98,8 @@ fn perform<R: Threads + Sync, G: Gate + Sync, S: Source, K: Sink>(
     output: &mut K,
 ) -> JobEnd
     requires { IsFormWithinBounds form }
-    ensures does { OnForm form
-        (λ campaign. (input.new ≡ input.old) × AnswersUnread (campaign_text campaign) result (K.taken output.old) (K.taken output.new) (SinkFails K.faults K.empty_takes output.old output.new))
-        ((bytes : List ℕ) → S.left input.old ≡ Some bytes → DoesForm form bytes result (S.left input.new) (K.taken output.old) (K.taken output.new)) }
-    ensures cause { EndsForCause result (Rose (S.faults input.old) (S.faults input.new)) (SinkFails K.faults K.empty_takes output.old output.new) }
+    ensures { PerformsForm form result (input.new ≡ input.old) (S.left input.old) (S.left input.new) (K.taken output.old) (K.taken output.new)
+        (Rose (S.faults input.old) (S.faults input.new)) (SinkFails K.faults K.empty_takes output.old output.new) }
 {
     match form {
         Form::Run => run_schedule(alloc, input, output),
