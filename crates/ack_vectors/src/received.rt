@@ -20,7 +20,7 @@ use std::marker::Model;
 const RECORDS: usize = 64;
 
 /// A sent packet with an Ack Vector, as it is remembered (own). No call gives one out; contracts speak of them.
-#[derive(Clone, Copy, Debug, PartialEq, Eq)]
+#[derive(Clone, Copy)]
 pub struct VectorRecord {
     /// The packet's number.
     pub number: Seq48,

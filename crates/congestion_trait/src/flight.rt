@@ -35,7 +35,7 @@ pub enum Standing {
 }
 
 /// A data packet that was sent. No call gives one out; contracts speak of it.
-#[derive(Clone, Copy, Debug, PartialEq, Eq)]
+#[derive(Clone, Copy, PartialEq, Eq)]
 pub struct FlightEntry {
     /// Its sequence number.
     pub number: Seq48,

@@ -29,7 +29,7 @@ pub struct Ports {
 }
 
 /// One end's side of a connection: who it is, between which addresses and ports, and its first sequence number.
-#[derive(Clone, Copy, Debug, PartialEq, Eq)]
+#[derive(Clone, Copy, Debug)]
 pub struct Config {
     /// Which of the two ends it is.
     pub role: Role,

@@ -7,7 +7,7 @@ use crate::kinds::{MANDATORY, PADDING, is_ignored_on_data, is_one_byte};
 use crate::option::{Opt, OptFault};
 
 // An option as it is in the area, Padding and Mandatory among them.
-#[derive(Clone, Copy, Debug)]
+#[derive(Clone, Copy)]
 pub(crate) struct RawOpt<'a> {
     place: u16,
     kind: u8,

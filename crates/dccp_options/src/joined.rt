@@ -7,7 +7,7 @@ use crate::cursor::Cursor;
 use crate::kinds::is_ack_vector;
 
 /// The bytes that are left: those of a vector, and of the vectors among the options after it.
-#[derive(Clone, Copy, Debug)]
+#[derive(Clone, Copy)]
 pub(crate) struct JoinedBytes<'a> {
     pub(crate) vector: &'a [u8],
     options: Cursor<'a>,

@@ -20,7 +20,7 @@ pub struct Run {
 
 /// What a packet's Ack Vectors say of the numbers from its acknowledgement number downwards; several vectors continue
 /// each other (RFC 4340, section 11.4). Contracts see the acknowledgement number and the vectors' bytes.
-#[derive(Clone, Debug, Drop)]
+#[derive(Drop)]
 pub struct AckReport<'a> {
     ack: Seq48,
     bytes: JoinedBytes<'a>,
@@ -39,7 +39,7 @@ impl<'a> Model for AckReport<'a> {
 }
 
 /// The runs of a report that are still to come, from the highest down: an iterator. Contracts see the list of them.
-#[derive(Clone, Debug, Drop)]
+#[derive(Drop)]
 pub struct ReportRuns<'a> {
     hi: Seq48,
     bytes: JoinedBytes<'a>,

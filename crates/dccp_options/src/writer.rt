@@ -13,7 +13,7 @@ const ROOM: usize = 1008;
 pub struct OptFull;
 
 /// An option area that is being written, of at most 1,008 bytes. Contracts see the bytes.
-#[derive(Debug, Drop)]
+#[derive(Drop)]
 pub struct OptWriter {
     area: ArrayVec<u8, ROOM>,
 }

@@ -11,7 +11,7 @@ use std::marker::Model;
 pub const MOST_FRAME_BYTES: usize = 2044;
 
 /// A packet's bytes, at most `MOST_FRAME_BYTES` of them, in the value itself. Contracts see the list of bytes.
-#[derive(Debug, Drop)]
+#[derive(Drop)]
 pub struct Frame {
     bytes: ArrayVec<u8, MOST_FRAME_BYTES>,
 }
@@ -111,7 +111,7 @@ pub struct Sent<'a> {
 /// room for the longest one and stays where it is, so an Outbox is made once and handed to many calls.
 ///
 /// The caller that fills it is responsible for the numbers: an end's calls guarantee that they are those of the frame.
-#[derive(Debug, Drop)]
+#[derive(Drop)]
 pub struct Outbox {
     // those of an earlier call, if there are no numbers
     frame: Frame,

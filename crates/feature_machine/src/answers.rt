@@ -14,7 +14,7 @@ pub enum Answer {
 }
 
 /// A Confirm option to be sent.
-#[derive(Debug, Default, Drop)]
+#[derive(Debug, Drop)]
 pub struct ConfirmOut {
     /// Whether it is Confirm L (type 33) or Confirm R (type 35).
     pub left: bool,

@@ -10,7 +10,7 @@ use feature_lists::{Feature, Place};
 use std::marker::Model;
 
 /// The rows in CHANGING or UNSTABLE, in the order of the features, Here before There.
-#[derive(Debug, Drop)]
+#[derive(Drop)]
 pub struct DueRows<'a> {
     rows: &'a [Row],
     next: usize,

@@ -13,7 +13,7 @@ use std::marker::Model;
 
 /// What an end wants for each feature at each place when the connection starts, and which of these it offers by itself.
 /// Contracts see what is listed for the rows in their order.
-#[derive(Clone, Copy, Debug, PartialEq, Eq)]
+#[derive(Clone, Copy, Debug)]
 pub struct Lists {
     listed: [RowSetup; 18],
 }

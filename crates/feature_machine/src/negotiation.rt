@@ -33,7 +33,7 @@ use std::marker::Model;
 /// otherwise the end would hold a value that none of its packets has stated. To write a Change, first call `sent` with
 /// the number of its packet, and then take the list or value from `active` and Mandatory from `mandatory`: before
 /// `sent` an UNSTABLE row still has its old list there.
-#[derive(Clone, Copy, Debug, PartialEq, Eq)]
+#[derive(Clone, Copy)]
 pub struct Negotiation {
     rows: [Row; 18],
     // How many of them have something to say by themselves: mostly none, which is asked for each Response.

@@ -14,7 +14,7 @@ pub enum Offer {
 }
 
 /// What an end starts with for a feature at a place.
-#[derive(Clone, Copy, Debug, PartialEq, Eq)]
+#[derive(Clone, Copy, Debug)]
 pub struct RowSetup {
     pub feature: Feature,
     pub place: Place,

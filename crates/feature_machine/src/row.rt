@@ -28,7 +28,7 @@ use feature_lists::{Feature, Place, Wanted, initial};
 use seq_circle::Seq48;
 
 /// A feature at one place, as one end has it.
-#[derive(Clone, Copy, Debug, PartialEq, Eq)]
+#[derive(Clone, Copy)]
 pub struct Row {
     /// Which end it is.
     pub role: Role2,

@@ -79,7 +79,7 @@ impl Runs for PlainRuns {
 }
 
 /// A call to a set of runs.
-#[derive(Clone, Copy, Debug, PartialEq, Eq)]
+#[derive(Clone, Copy)]
 pub enum RunCall {
     /// Empties the set and sets its floor.
     Start(Seq48),
