@@ -8,7 +8,7 @@ ghost use Rattle.dccp_endpoint.specs.UserCalls.{seen_of};
 ghost use Rattle.two_ends.specs.World.{HasPlace, input_said, number_if};
 
 use crate::frames::{keep_frame, take_memory};
-use crate::{Seen, SentFrame, WorldFault};
+use crate::{Seen, SentFrame};
 use congestion_trait::Congestion;
 use dccp_endpoint::{Config, Endpoint, Outcome, UserCall};
 use dccp_packets::Outbox;
@@ -57,9 +57,10 @@ impl<C: Congestion + Drop> HalfWorld<C> {
     {
         let frames = Vec::with_capacity(alloc, USUAL_FRAMES)?;
         let processed = Vec::with_capacity(alloc, USUAL_FRAMES)?;
+        let end = Endpoint::new(alloc, config, congestion)?;
         let half = HalfWorld {
             alloc,
-            end: Endpoint::new(alloc, config, congestion)?,
+            end,
             frames,
             processed,
             spare: Vec::new(alloc),
@@ -73,7 +74,7 @@ impl<C: Congestion + Drop> HalfWorld<C> {
 }
 
 impl<C: Congestion> HalfWorld<C> {
-    ghost use Rattle.std.specs.Prelude.{◌≡◌, ◌≢◌, ◌≤◌, length, IfOk, OnErr, Ok, Err, Some, None};
+    ghost use Rattle.std.specs.Prelude.{◌≡◌, ◌≤◌, length, IfOk, OnErr, Some, None};
     ghost use Rattle.dccp_endpoint.specs.Inputs.{Arrives};
     ghost use Rattle.two_ends.specs.Controlled.{controlled_half_steps, said_by};
     ghost use Rattle.two_ends.specs.World.{input_said};
@@ -100,17 +101,11 @@ impl<C: Congestion> HalfWorld<C> {
     // One call of the end, which processes no number. All memory that the step may need is taken before the end is
     // touched.
     #[tactic(auto, using(crate::proofs::OfWorlds::Processing::calls_process_nothing))]
-    pub(crate) fn call(&mut self, call: UserCall<'_>) -> Result<Seen, WorldFault>
+    pub(crate) fn call(&mut self, call: UserCall<'_>) -> Result<Seen, NoMemory>
         ensures ok { IfOk result (λ seen. record { after = self.new; seen = seen } ≡ controlled_half_steps C.control self.old None (input_said call.entry (said_by C.control self.old.congestion))) }
-        ensures there { result ≢ Err WorldFault.NoSuchFrame }
-        ensures room { result ≢ Err WorldFault.Full }
-        ensures near { result ≢ Err WorldFault.FarShort }
         ensures err { OnErr result (self.new ≡ self.old) }
     {
-        match take_memory(&mut self.frames, &mut self.spare) {
-            Ok(()) => {}
-            Err(NoMemory) => return Err(WorldFault::NoMemory),
-        }
+        take_memory(&mut self.frames, &mut self.spare)?;
         let seen = act(&mut self.end, call, &mut self.out);
         let processed = self.processed.len() as u64;
         let floor = self.end.floor();
@@ -126,22 +121,13 @@ impl<C: Congestion> HalfWorld<C> {
     }
 
     // A frame of the other side arrives, whose number in full this is.
-    pub(crate) fn receive(&mut self, bytes: &[u8], number: Seq48) -> Result<Seen, WorldFault>
+    pub(crate) fn receive(&mut self, bytes: &[u8], number: Seq48) -> Result<Seen, NoMemory>
         requires { length bytes.now ≤ 2044 }
         ensures ok { IfOk result (λ seen. record { after = self.new; seen = seen } ≡ controlled_half_steps C.control self.old (Some number) (Arrives bytes.now)) }
-        ensures there { result ≢ Err WorldFault.NoSuchFrame }
-        ensures room { result ≢ Err WorldFault.Full }
-        ensures near { result ≢ Err WorldFault.FarShort }
         ensures err { OnErr result (self.new ≡ self.old) }
     {
-        match take_memory(&mut self.frames, &mut self.spare) {
-            Ok(()) => {}
-            Err(NoMemory) => return Err(WorldFault::NoMemory),
-        }
-        match self.processed.reserve(1) {
-            Ok(()) => {}
-            Err(_) => return Err(WorldFault::NoMemory),
-        }
+        take_memory(&mut self.frames, &mut self.spare)?;
+        self.processed.reserve(1)?;
         let before = self.end.marked();
         let outcome = arrive(&mut self.end, bytes, &mut self.out);
         let taken = before < self.end.marked();

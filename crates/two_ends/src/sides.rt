@@ -54,7 +54,7 @@ impl<C: Congestion + Drop> Sides<C> {
 impl<C: Congestion> Sides<C> {
     ghost use Rattle.std.specs.Prelude.{◌≡◌, ◌≢◌, ◌↔◌, true, false, is_some, IfOk, OnErr, Ok, Err, slice_get, None};
     ghost use Rattle.two_ends.specs.Controlled.{congestion_of, controls, happens_to, said_by};
-    ghost use Rattle.two_ends.specs.World.{half_of, input_said, is_far_at, is_full, takes_place, Calls, Delivers, LacksFrame, ActorIsFull, DeliversFar};
+    ghost use Rattle.two_ends.specs.World.{half_of, input_said, is_far_at, is_full, takes_place, Calls, Delivers};
     ghost use Rattle.world_events.specs.Actors.{other};
 
     pub(crate) fn half(&self, side: Side) -> &HalfWorld<C>
@@ -73,9 +73,6 @@ impl<C: Congestion> Sides<C> {
         ensures no_such_frame { (result ≡ Err WorldFault.NoSuchFrame) ↔ (happens_to C.control self.old event.now ≡ Err WorldFault.NoSuchFrame) }
         ensures full { (result ≡ Err WorldFault.Full) ↔ (happens_to C.control self.old event.now ≡ Err WorldFault.Full) }
         ensures far_short { (result ≡ Err WorldFault.FarShort) ↔ (happens_to C.control self.old event.now ≡ Err WorldFault.FarShort) }
-        ensures lacks { (result ≡ Err WorldFault.NoSuchFrame) ↔ LacksFrame self.old.world event.now }
-        ensures filled { (result ≡ Err WorldFault.Full) ↔ ((LacksFrame self.old.world event.now → ⊥) × ActorIsFull self.old.world event.now) }
-        ensures far { (result ≡ Err WorldFault.FarShort) ↔ ((LacksFrame self.old.world event.now → ⊥) × (ActorIsFull self.old.world event.now → ⊥) × DeliversFar self.old.world event.now) }
         ensures err { OnErr result (self.new ≡ self.old) }
     {
         match event {
@@ -153,7 +150,10 @@ fn call_half<C: Congestion>(half: &mut HalfWorld<C>, call: UserCall<'_>) -> Resu
     if is_full(half) {
         return Err(WorldFault::Full);
     }
-    half.call(call)
+    match half.call(call) {
+        Ok(seen) => Ok(seen),
+        Err(NoMemory) => Err(WorldFault::NoMemory),
+    }
 }
 
 fn deliver<C: Congestion>(
@@ -192,5 +192,8 @@ fn receive_half<C: Congestion>(
     if is_far_frame(half.end(), frame) {
         return Err(WorldFault::FarShort);
     }
-    half.receive(frame.bytes.as_slice(), frame.number)
+    match half.receive(frame.bytes.as_slice(), frame.number) {
+        Ok(seen) => Ok(seen),
+        Err(NoMemory) => Err(WorldFault::NoMemory),
+    }
 }

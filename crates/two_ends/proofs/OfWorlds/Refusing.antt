@@ -1,19 +1,23 @@
--- Why a delivery is refused: from what the code finds of a frame and of the side at which it arrives to what `happens_to` says.
-use Rattle.std.proofs.Common.{◌≡◌, ◌↔◌, refl, ap, sym, ◌∙◌, subst, ℕ, ◌-◌, ◌^◌, ◌<◌, ◌≤◌, Bool, true, false, if◌then◌else◌, List, Option, Some, None, Result, Err, slice_get, length, arith, ◌⊎◌, inl, inr, IfOk, IfSome}
+-- Why an event is refused: from what the code finds of a frame and of the side at which it arrives to what `happens_to` says, and from that to
+-- the causes.
+use Rattle.std.proofs.Common.{◌≡◌, ◌↔◌, refl, ap, sym, ◌∙◌, subst, ℕ, ◌-◌, ◌^◌, ◌<◌, ◌≤◌, Bool, true, false, if◌then◌else◌, List, Option, Some, None, Result, Ok, Err, slice_get, length, arith, ◌⊎◌, inl, inr, IfOk, IfSome}
 use Rattle.std.specs.Prelude.{get_or, is_some}
-use Rattle.std.proofs.lemmas.Bool.{le-leb, leb-true}
+use Rattle.std.proofs.lemmas.Bool.{false≢true, le-leb, leb-true}
 use Rattle.std.proofs.lemmas.Option.{slice_get_cases}
 use Rattle.congestion_trait.specs.Control.{Control}
-use Rattle.dccp_endpoint.specs.Inputs.{Arrives}
+use Rattle.dccp_endpoint.specs.Inputs.{Arrives, Input}
+use Rattle.dccp_endpoint.specs.Inputs as input
 use Rattle.world_events.specs.Actors.{other}
+use Rattle.world_events.specs.declared.event.Event.{Event}
 use Rattle.world_events.specs.declared.event.Event.TheVariants as event
 use Rattle.dccp_states.specs.declared.seen.Seen.{Seen}
 use Rattle.world_events.specs.declared.event.Side.{Side}
+use Rattle.world_events.specs.declared.event.Side.TheVariants.{Client}
 use Rattle.world_events.specs.declared.event.WorldFault.{WorldFault}
 use Rattle.world_events.specs.declared.event.WorldFault.TheVariants as fault
 use Rattle.two_ends.specs.declared.frames.SentFrame.{SentFrame}
-use Rattle.two_ends.specs.Controlled.{ControlledWorld, ControlledHalf, ControlledStep, controlled_half_steps, controls, happens_to}
-use Rattle.two_ends.specs.World.{ActorIsFull, DeliversFar, Half, LacksFrame, delivers_frame, half_of, is_far_at, is_far_frame, is_full, in_world, unless_far}
+use Rattle.two_ends.specs.Controlled.{ControlledWorld, ControlledHalf, ControlledStep, congestion_of, controlled_half_steps, controls, happens_to, said_by}
+use Rattle.two_ends.specs.World.{ActorIsFull, DeliversFar, Half, LacksFrame, Said, delivers_frame, half_of, half_steps, in_world, is_far_at, is_far_frame, is_full, unless_far}
 
 -- where a list has nothing
 past-end : {A : Type 0} (xs : List A) (index : ℕ) → slice_get xs index ≡ None → length xs ≤ index
@@ -43,6 +47,12 @@ roomy half room = by (is_full half) refl where
   by : (full : Bool) → is_full half ≡ full → full ≡ false
   by true full = absurd (room (leb-true (2 ^ 47 - 1) (length half.frames) full))
   by false full = refl
+
+-- Each refusal has its cause: the frame lacks; or else the side is full; or else the frame is far.
+pub record IsCaused {X : Type 0} (outcome : Result X WorldFault) (Lacks Fills Far : Type 0) : Type 0 where
+  pub lacks : (outcome ≡ Err fault.NoSuchFrame) ↔ Lacks
+  pub filled : (outcome ≡ Err fault.Full) ↔ ((Lacks → ⊥) × Fills)
+  pub far : (outcome ≡ Err fault.FarShort) ↔ ((Lacks → ⊥) × (Fills → ⊥) × Far)
 
 module _ {C : Type 0} (control : Control C) (w : ControlledWorld C) (from : Side) where
   abbrev to : Half
@@ -89,53 +99,111 @@ module _ {C : Type 0} (control : Control C) (w : ControlledWorld C) (from : Side
     λ is. far-by frame (is_full to) (is_far_frame to.end frame) is,
   )
 
-  -- what `step` returns of a delivery that is refused
-  pub record IsTold (index : ℕ) (result : Result Seen WorldFault) : Type 0 where
-    pub no_such_frame : (result ≡ Err fault.NoSuchFrame) ↔ (happens_to control w (event.Deliver from index) ≡ Err fault.NoSuchFrame)
-    pub full : (result ≡ Err fault.Full) ↔ (happens_to control w (event.Deliver from index) ≡ Err fault.Full)
-    pub far_short : (result ≡ Err fault.FarShort) ↔ (happens_to control w (event.Deliver from index) ≡ Err fault.FarShort)
-    pub lacks : (result ≡ Err fault.NoSuchFrame) ↔ LacksFrame w.world (event.Deliver from index)
-    pub filled : (result ≡ Err fault.Full)
-        ↔ ((LacksFrame w.world (event.Deliver from index) → ⊥) × ActorIsFull w.world (event.Deliver from index))
-    pub far : (result ≡ Err fault.FarShort)
-        ↔ ((LacksFrame w.world (event.Deliver from index) → ⊥)
-        × (ActorIsFull w.world (event.Deliver from index) → ⊥) × DeliversFar w.world (event.Deliver from index))
-
-  module _ (index : ℕ) (result : Result Seen WorldFault) where
+  module _ (index : ℕ) where
     abbrev frames : List SentFrame
     frames = (half_of w.world from).frames
 
     abbrev at : Option SentFrame
     at = slice_get frames index
 
-    module _ (none : (result ≡ Err fault.NoSuchFrame) ↔ (at ≡ None)) (full : (result ≡ Err fault.Full) ↔ ((is_some at ≡ true) × (is_full to ≡ true)))
-        (far : (result ≡ Err fault.FarShort) ↔ ((is_full to ≡ false) × (is_far_at to.end at ≡ true))) where
-      far-there : is_far_at to.end at ≡ true → length frames ≤ index → ⊥
-      far-there is past =
-          let nothing : false ≡ true = subst (λ (o : Option SentFrame). is_far_at to.end o ≡ true) (none-past frames index past) is in
-          cc nothing
+    -- what `step` returns of a delivery that is refused
+    module _ (result : Result Seen WorldFault) where
+      pub told-none : (result ≡ Err fault.NoSuchFrame) ↔ (at ≡ None)
+          → (result ≡ Err fault.NoSuchFrame) ↔ (happens_to control w (event.Deliver from index) ≡ Err fault.NoSuchFrame)
+      told-none none = (λ is. (none-so at).0 (none.0 is), λ is. none.1 ((none-so at).1 is))
 
-      far-roomy : is_full to ≡ false → 2 ^ 47 - 1 ≤ length to.frames → ⊥
-      far-roomy room most =
-          let filled : is_full to ≡ true = le-leb (2 ^ 47 - 1) (length to.frames) most in
-          cc (room, filled)
+      pub told-full : (result ≡ Err fault.Full) ↔ ((is_some at ≡ true) × (is_full to ≡ true))
+          → (result ≡ Err fault.Full) ↔ (happens_to control w (event.Deliver from index) ≡ Err fault.Full)
+      told-full full = (λ is. (full-so at).0 (full.0 is), λ is. full.1 ((full-so at).1 is))
 
-      pub told-so : IsTold index result
-      told-so =
-          record {
-            no_such_frame = (λ is. (none-so at).0 (none.0 is), λ is. none.1 ((none-so at).1 is));
-            full = (λ is. (full-so at).0 (full.0 is), λ is. full.1 ((full-so at).1 is));
-            far_short = (λ is. (far-so at).0 (far.0 is), λ is. far.1 ((far-so at).1 is));
-            lacks = (λ is. past-end frames index (none.0 is), λ past. none.1 (none-past frames index past));
-            filled = (
-              λ is. (λ past. none-not at (full.0 is).0 (none-past frames index past), leb-true (2 ^ 47 - 1) (length to.frames) (full.0 is).1),
-              λ both. full.1 (some-from at (λ is. both.0 (past-end frames index is)), le-leb (2 ^ 47 - 1) (length to.frames) both.1),
-            );
-            far = (
-              λ is. (far-there (far.0 is).1, far-roomy (far.0 is).0, (far.0 is).1),
-              λ all. far.1 (roomy to all.1, all.2),
-            );
-          }
+      pub told-far : (result ≡ Err fault.FarShort) ↔ ((is_full to ≡ false) × (is_far_at to.end at ≡ true))
+          → (result ≡ Err fault.FarShort) ↔ (happens_to control w (event.Deliver from index) ≡ Err fault.FarShort)
+      told-far far = (λ is. (far-so at).0 (far.0 is), λ is. far.1 ((far-so at).1 is))
+
+    far-there : is_far_at to.end at ≡ true → length frames ≤ index → ⊥
+    far-there is past =
+        let nothing : false ≡ true = subst (λ (o : Option SentFrame). is_far_at to.end o ≡ true) (none-past frames index past) is in
+        absurd (false≢true nothing)
+
+    far-roomy : is_full to ≡ false → 2 ^ 47 - 1 ≤ length to.frames → ⊥
+    far-roomy room most =
+        let filled : is_full to ≡ true = le-leb (2 ^ 47 - 1) (length to.frames) most in
+        cc (room, filled)
+
+    delivery-caused : IsCaused (happens_to control w (event.Deliver from index)) (length frames ≤ index) (2 ^ 47 - 1 ≤ length to.frames)
+        (is_far_at to.end at ≡ true)
+    delivery-caused =
+        record {
+          lacks = (λ is. past-end frames index ((none-so at).1 is), λ past. (none-so at).0 (none-past frames index past));
+          filled = (
+            λ is. (λ past. none-not at ((full-so at).1 is).0 (none-past frames index past), leb-true (2 ^ 47 - 1) (length to.frames) ((full-so at).1 is).1),
+            λ both. (full-so at).0 (some-from at (λ is. both.0 (past-end frames index is)), le-leb (2 ^ 47 - 1) (length to.frames) both.1),
+          );
+          far = (
+            λ is. (far-there ((far-so at).1 is).1, far-roomy ((far-so at).1 is).0, ((far-so at).1 is).1),
+            λ all. (far-so at).0 (roomy to all.1, all.2),
+          );
+        }
+
+module _ {C : Type 0} (control : Control C) (w : ControlledWorld C) where
+  module _ (side : Side) (given : Input) where
+    abbrev half : Half
+    half = half_of w.world side
+
+    -- what becomes of a call
+    abbrev called : Bool → Result (ControlledStep C) WorldFault
+    called full = controls control w side (if full then Err fault.Full else in_world w.world side (Ok (half_steps half None given)))
+
+    never-lacks : (full : Bool) → called full ≡ Err fault.NoSuchFrame → ⊥
+    never-lacks true is = cc is
+    never-lacks false is = cc is
+
+    only-full : (full : Bool) → called full ≡ Err fault.Full → full ≡ true
+    only-full true is = refl
+    only-full false is = cc is
+
+    never-far : (full : Bool) → called full ≡ Err fault.FarShort → ⊥
+    never-far true is = cc is
+    never-far false is = cc is
+
+    call-caused : IsCaused (called (is_full half)) ⊥ (2 ^ 47 - 1 ≤ length half.frames) ⊥
+    call-caused =
+        record {
+          lacks = (never-lacks (is_full half), λ none. absurd none);
+          filled = (
+            λ is. (λ none. none, leb-true (2 ^ 47 - 1) (length half.frames) (only-full (is_full half) is)),
+            λ both. ap called (le-leb (2 ^ 47 - 1) (length half.frames) both.1),
+          );
+          far = (λ is. absurd (never-far (is_full half) is), λ all. absurd all.2);
+        }
+
+  abbrev said : Side → Said
+  said side = said_by control (congestion_of w side)
+
+  -- each refusal of an event has its cause
+  caused : (e : Event) → IsCaused (happens_to control w e) (LacksFrame w.world e) (ActorIsFull w.world e) (DeliversFar w.world e)
+  caused event.Open = call-caused Client input.Opens
+  caused (event.Deliver from index) = delivery-caused control w from index
+  caused (event.Send side payload) = call-caused side (input.Sends payload (said side).may_send)
+  caused (event.SendEarly side payload) = call-caused side (input.SendsEarly payload (said side).may_send)
+  caused (event.Prefer side feature place values) = call-caused side (input.Prefers (feature, place) values)
+  caused (event.Timer side timer) = call-caused side (input.Fires timer (said side).in_flight)
+  caused (event.Close side) = call-caused side input.Closes
+  caused (event.Abort side) = call-caused side input.Aborts
+
+  -- and so has what `step` returns of it
+  pub result-caused : (e : Event) (result : Result Seen WorldFault)
+      → ((result ≡ Err fault.NoSuchFrame) ↔ (happens_to control w e ≡ Err fault.NoSuchFrame))
+      → ((result ≡ Err fault.Full) ↔ (happens_to control w e ≡ Err fault.Full))
+      → ((result ≡ Err fault.FarShort) ↔ (happens_to control w e ≡ Err fault.FarShort))
+      → IsCaused result (LacksFrame w.world e) (ActorIsFull w.world e) (DeliversFar w.world e)
+  result-caused e result none full far =
+      let by : IsCaused (happens_to control w e) (LacksFrame w.world e) (ActorIsFull w.world e) (DeliversFar w.world e) = caused e in
+      record {
+        lacks = (λ is. by.lacks.0 (none.0 is), λ lacks. none.1 (by.lacks.1 lacks));
+        filled = (λ is. by.filled.0 (full.0 is), λ both. full.1 (by.filled.1 both));
+        far = (λ is. by.far.0 (far.0 is), λ all. far.1 (by.far.1 all));
+      }
 
 -- What the code finds of a frame that it looked up by its index, from what it finds of one that is there.
 module _ {C : Type 0} (control : Control C) (old : ControlledHalf C) where
