@@ -83,6 +83,28 @@ fn standing_after(state: Option<u8>, passed: bool, standing: Standing) -> Standi
     }
 }
 
+// Whether a report that gives an entry this state acknowledges it newly, without a mark.
+fn acks(state: Option<u8>, standing: Standing) -> bool
+    ensures { result ≡ (not (is_reported standing) && is_unmarked state) }
+{
+    !is_reported(standing) && matches!(state, Some(RECEIVED))
+}
+
+// Whether it shows congestion: the entry is newly marked, or newly lost.
+fn congests(state: Option<u8>, passed: bool, standing: Standing) -> bool
+    ensures { result ≡ (not (is_reported standing) && is_marked state || is_out standing && not (is_received state) && passed) }
+{
+    match standing {
+        Standing::Out => match state {
+            Some(MARKED) => true,
+            Some(RECEIVED) => false,
+            Some(_) | None => passed,
+        },
+        Standing::Lost => matches!(state, Some(MARKED)),
+        Standing::Reported => false,
+    }
+}
+
 fn entry_at(entries: &HeapCircularBuffer<FlightEntry>, index: usize) -> FlightEntry
     requires { index < length entries.now.items }
     ensures { slice_get entries.now.items index ≡ Some result }
@@ -120,15 +142,13 @@ impl FlightWalk {
     {
         let passed = self.reported >= PASSING;
         let after = standing_after(state, passed, entry.standing);
-        let news = after != entry.standing;
-        if news && state == Some(RECEIVED) {
+        if acks(state, entry.standing) {
             self.acked += 1;
         }
-        let congests = after == Standing::Lost || state == Some(MARKED);
-        if news && congests && is_past(mark, entry.number) {
+        if congests(state, passed, entry.standing) && is_past(mark, entry.number) {
             self.congested = true;
         }
-        if entry.standing == Standing::Out {
+        if matches!(entry.standing, Standing::Out) {
             self.seen += 1;
         }
         match after {
