@@ -30,3 +30,5 @@ pub mod Keeping
 pub mod Quiet
 pub mod Fresh
 pub mod Spelled
+pub mod Unsent
+pub mod Idling

@@ -1,6 +1,9 @@
 -- The bytes of options, one after the other.
-use Rattle.std.proofs.Common.{◌≡◌, ℕ, List, [], ◌∷◌, ◌++◌, refl, sym, ap, ◌∙◌, append_assoc, append-nil}
+use Rattle.std.proofs.Common.{◌≡◌, ◌<◌, ◌≤◌, ℕ, Bool, false, if◌then◌else◌, List, [], ◌∷◌, ◌++◌, length, map, take, drop, refl, sym, ap, ◌∙◌, append_assoc, append-nil}
+use Rattle.std.proofs.lemmas.Bool.{le-leb, lt-leb}
+use Rattle.ack_vectors.specs.Vector.{option_data}
 use Rattle.dccp_options.specs.Written.{Item, spelled, written}
+use Rattle.dccp_endpoint.specs.Reporting.{vector_item}
 
 -- options of two lists
 pub written-append : (one other : List Item) → written (one ++ other) ≡ written one ++ written other
@@ -20,3 +23,17 @@ written_both one other = sym (written-append one other)
 -- Confirms after others, and no Change
 pub written_confirms : (one other : List Item) → [] ++ written one ++ written other ≡ written (one ++ (other ++ []))
 written_confirms one other = sym (written-append one other) ∙ ap (λ (rest : List Item). written (one ++ rest)) (sym (append-nil other))
+
+-- an Ack Vector for which one option has room, or two
+abbrev vector_in : List ℕ → Bool → List ℕ
+vector_in bytes fits = written (map vector_item (if fits then bytes ∷ [] else take 253 bytes ∷ drop 253 bytes ∷ []))
+
+pub vector_in_one : (bytes : List ℕ) → length bytes ≤ 253 → spelled false 38 bytes ≡ written (map vector_item (option_data bytes))
+vector_in_one bytes fits = sym (ap (vector_in bytes) (le-leb (length bytes) 253 fits) ∙ append-nil (spelled false 38 bytes))
+
+pub vector_in_two : (bytes : List ℕ) → 253 < length bytes
+    → spelled false 38 (take 253 bytes) ++ spelled false 38 (drop 253 bytes) ≡ written (map vector_item (option_data bytes))
+vector_in_two bytes long =
+    let first : List ℕ = spelled false 38 (take 253 bytes) in
+    let second : List ℕ = spelled false 38 (drop 253 bytes) in
+    sym (ap (vector_in bytes) (lt-leb (length bytes) 253 long) ∙ ap (λ (rest : List ℕ). first ++ rest) (append-nil second))

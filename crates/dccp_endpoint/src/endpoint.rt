@@ -262,12 +262,14 @@ impl<C: Congestion> Endpoint<C> {
     {
         out.clear();
         let may_send = self.congestion.may_send();
-        if let Some(fault) = self.connection.send_fault(payload, may_send) {
-            return Err(fault);
+        match self.connection.send_fault(payload, may_send) {
+            Some(fault) => Err(fault),
+            None => {
+                let number = self.connection.send_data(payload, out);
+                self.congestion.on_sent(number);
+                Ok(())
+            }
         }
-        let number = self.connection.send_data(payload, out);
-        self.congestion.on_sent(number);
-        Ok(())
     }
 
     /// Sends data of a client that speaks first, at most 1,024 bytes, in PARTOPEN, when it has received only the
@@ -291,12 +293,14 @@ impl<C: Congestion> Endpoint<C> {
     {
         out.clear();
         let may_send = self.congestion.may_send();
-        if let Some(fault) = self.connection.early_fault(payload, may_send) {
-            return Err(fault);
+        match self.connection.early_fault(payload, may_send) {
+            Some(fault) => Err(fault),
+            None => {
+                let number = self.connection.send_early_data(payload, out);
+                self.congestion.on_sent(number);
+                Ok(())
+            }
         }
-        let number = self.connection.send_early_data(payload, out);
-        self.congestion.on_sent(number);
-        Ok(())
     }
 
     /// Sends data as soon as the phase lets them go: in PARTOPEN by [`Endpoint::send_early`], in any other phase by
@@ -385,10 +389,7 @@ impl<C: Congestion> Endpoint<C> {
     // The timer of the congestion control has run out. True exactly if the congestion control is told.
     #[tactic(auto, unfolding(crate::specs::Calling::fires))]
     fn time_out(&mut self, out: &mut Outbox) -> bool
-        ensures step { record { after = self.new; frame = out.new; answer = result } ≡ with_control C.control self.old.congestion (fires self.old.state timers.Rto (has_in_flight C.control self.old.congestion)) }
-        ensures applies { result ≡ applies timers.Rto self.old.state (has_in_flight C.control self.old.congestion) }
-        ensures idle { result ≡ false → self.new ≡ self.old }
-        ensures sends_nothing { result ≡ false → out.new ≡ None }
+        ensures { record { after = self.new; frame = out.new; answer = result } ≡ with_control C.control self.old.congestion (fires self.old.state timers.Rto (has_in_flight C.control self.old.congestion)) }
     {
         out.clear();
         if !is_open(self.connection.phase) || self.congestion.in_flight() == 0 {

@@ -15,7 +15,10 @@ fn feed_one<C: Congestion>(end: &mut Endpoint<C>, frame: &Frame) -> u32
     let mut out = Outbox::new();
     match end.receive(frame.bytes(), &mut out) {
         Outcome::Took { .. } => 1,
-        _ => 0,
+        Outcome::Dropped(_)
+        | Outcome::Synced(_)
+        | Outcome::WasReset(_)
+        | Outcome::SentReset { .. } => 0,
     }
 }
 

@@ -32,8 +32,8 @@ pub const MOST_DATA_BYTES: usize = 1024;
 impl Connection {
     ghost use Rattle.std.specs.Prelude.{◌≡◌, ◌≢◌, ◌↔◌, ◌⊎◌, ◌≤◌, ◌<◌, Bool, [], None, Ok, Err, OnErr, true, false, length};
     ghost use Rattle.dccp_states.specs.declared.phase.Role.TheVariants as role;
-    ghost use Rattle.dccp_endpoint.specs.Calling.{aborts, aborts_now, applies, asks_all, asks_now, closes, closes_now, closing_again, fault_where, fires};
-    ghost use Rattle.dccp_endpoint.specs.Calling.{has_keys, is_asking_now, lacks_vectors, opens, opens_as, preferring, prefers, prefers_wish, requests, send_fault};
+    ghost use Rattle.dccp_endpoint.specs.Calling.{aborts, aborts_now, asks_all, asks_now, closes, closes_now, closing_again, fault_where, fires};
+    ghost use Rattle.dccp_endpoint.specs.Calling.{is_asking_now, lacks_vectors, opens, opens_as, preferring, prefers, prefers_wish, requests, send_fault};
     ghost use Rattle.dccp_endpoint.specs.End.{is_connected};
     ghost use Rattle.dccp_endpoint.specs.Speaking.{AreDue};
     ghost use Rattle.feature_lists.specs.Wishes.{is_wish, wish_of};
@@ -210,11 +210,8 @@ impl Connection {
     #[tactic(auto, unfolding(crate::specs::Calling::fires))]
     pub(crate) fn timer(&mut self, timer: Timer, out: &mut Outbox) -> bool
         requires { timer ≢ Timer.Rto }
-        ensures step { (in_flight : Bool)
+        ensures { (in_flight : Bool)
             → record { after = self.new; frame = out.new; calls = []; answer = result } ≡ fires self.old timer in_flight }
-        ensures applies { (in_flight : Bool) → result ≡ applies timer self.old in_flight }
-        ensures idle { result ≡ false → self.new ≡ self.old }
-        ensures sends_nothing { result ≡ false → out.new ≡ None }
     {
         out.clear();
         if !applies_in(timer, self.phase) {
@@ -288,8 +285,7 @@ impl Connection {
     #[tactic(auto, using(crate::proofs::Asking::unconfirmed_all))]
     fn ask_all(&mut self, out: &mut Outbox) -> bool
         requires { out.old ≡ None }
-        ensures step { record { after = self.new; frame = out.new; calls = []; answer = result } ≡ asks_all self.old (due_keys self.old.rows) }
-        ensures applies { result ≡ has_keys (due_keys self.old.rows) }
+        ensures { record { after = self.new; frame = out.new; calls = []; answer = result } ≡ asks_all self.old (due_keys self.old.rows) }
     {
         let keys = asking(self.rows(), &[]);
         let keys = keys.as_slice();
