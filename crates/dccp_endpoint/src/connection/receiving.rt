@@ -149,9 +149,7 @@ impl Connection {
 
     // Steps 2 to 7 and 9, in their order; an error if the packet leaves at one of them.
     fn take_steps(&mut self, packet: &IncomingPacket<'_>) -> Result<(), Exit>
-        ensures course { course self.new result ≡ through (Goes self.old) (the_steps packet.now (gate self.old.phase packet.now.kind)) }
-        ensures config { self.new.config ≡ self.old.config }
-        ensures rows { self.new.rows ≡ self.old.rows }
+        ensures { course self.new result ≡ through (Goes self.old) (the_steps packet.now (gate self.old.phase packet.now.kind)) }
     {
         let entrance = gate(self.phase, packet.kind);
         self.find_connection(entrance)?; // 2
@@ -228,9 +226,7 @@ impl Connection {
         entrance: Entrance,
     ) -> Result<(), Exit>
         requires { entrance ≡ Entrance.Accept → IsPhaseOf phase.Respond self.old.config.role }
-        ensures course { course self.new result ≡ accepts_request packet.now entrance self.old }
-        ensures config { self.new.config ≡ self.old.config }
-        ensures rows { self.new.rows ≡ self.old.rows }
+        ensures { course self.new result ≡ accepts_request packet.now entrance self.old }
     {
         if entrance != Entrance::Accept {
             return Ok(());
@@ -264,9 +260,7 @@ impl Connection {
     // Step 4: in REQUEST a Response starts the receiving, and a Reset passes to the next steps, if they acknowledge the
     // Request.
     fn take_answer(&mut self, packet: &IncomingPacket<'_>, entrance: Entrance) -> Result<(), Exit>
-        ensures course { course self.new result ≡ takes_answer packet.now entrance self.old }
-        ensures config { self.new.config ≡ self.old.config }
-        ensures rows { self.new.rows ≡ self.old.rows }
+        ensures { course self.new result ≡ takes_answer packet.now entrance self.old }
     {
         match entrance {
             Entrance::InRequest => self.take_response(packet),
@@ -276,9 +270,7 @@ impl Connection {
     }
 
     fn take_response(&mut self, packet: &IncomingPacket<'_>) -> Result<(), Exit>
-        ensures course { course self.new result ≡ answers packet.now self.old packet.now.kind (acknowledges_in_window self.old packet.now) }
-        ensures config { self.new.config ≡ self.old.config }
-        ensures rows { self.new.rows ≡ self.old.rows }
+        ensures { course self.new result ≡ answers packet.now self.old packet.now.kind (acknowledges_in_window self.old packet.now) }
     {
         let acknowledges = self.marks.acknowledges(packet.ack);
         match packet.kind {
@@ -304,9 +296,7 @@ impl Connection {
 
     // Steps 5 and 6: a packet with valid numbers raises the greatest numbers received, unless it is a Reset.
     fn check_numbers(&mut self, packet: &IncomingPacket<'_>, entrance: Entrance) -> Result<(), Exit>
-        ensures course { course self.new result ≡ checks_numbers packet.now entrance self.old }
-        ensures config { self.new.config ≡ self.old.config }
-        ensures rows { self.new.rows ≡ self.old.rows }
+        ensures { course self.new result ≡ checks_numbers packet.now entrance self.old }
     {
         match entrance {
             Entrance::Check => match self.marks.check(packet.kind, packet.number, packet.ack) {
@@ -327,9 +317,7 @@ impl Connection {
 
     fn raise(&mut self, packet: &IncomingPacket<'_>)
         requires { verdict self.old.marks packet.now.kind packet.now.number packet.now.ack ≡ Verdict.Valid }
-        ensures course { Goes self.new ≡ raises packet.now self.old packet.now.kind }
-        ensures config { self.new.config ≡ self.old.config }
-        ensures rows { self.new.rows ≡ self.old.rows }
+        ensures { Goes self.new ≡ raises packet.now self.old packet.now.kind }
     {
         match packet.kind {
             PacketType::Reset => {}
