@@ -27,7 +27,7 @@ impl Alarm {
 }
 
 /// The condition of an end, by which its timers run.
-#[derive(Clone, Copy, Debug, PartialEq, Eq)]
+#[derive(Clone, Copy)]
 pub struct Condition {
     /// The phase of its connection.
     pub phase: Phase,
@@ -50,7 +50,7 @@ impl Condition {
 }
 
 /// The timers that run for an end, of the six that it has: six fields and not a list, so that a call takes no memory.
-#[derive(Clone, Copy, Debug, PartialEq, Eq)]
+#[derive(Clone, Copy)]
 pub struct Alarms {
     /// Another Request goes out.
     pub request: Option<Alarm>,

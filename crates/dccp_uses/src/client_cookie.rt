@@ -47,7 +47,7 @@ fn add_cookie(pseudo: &Pseudo, cookie: &CookieOption, out: &mut Outbox)
 
 /// The Init Cookie that a client returns (RFC 4340, section 8.1.4), if it has one. Its owner calls `keep` with each
 /// datagram that the end has heard, and `put` for each frame that the end leaves.
-#[derive(Clone, Debug, Drop)]
+#[derive(Drop)]
 pub struct ClientCookie {
     option: CookieOption,
 }

@@ -25,7 +25,7 @@ const BUFFER_FULL: u8 = 2;
 const CORRUPT: u8 = 3;
 
 /// What a report of drops is the first to name (RFC 4340, sections 11.7 and 11.7.2).
-#[derive(Clone, Copy, Debug, PartialEq, Eq)]
+#[derive(Clone, Copy, PartialEq, Eq)]
 pub struct Drops {
     /// How many packets the receive buffer had no room for: Drop Code 2.
     pub full: u32,
@@ -38,7 +38,7 @@ pub struct Drops {
 }
 
 /// What a packet says about the application that reads an end's data.
-#[derive(Clone, Copy, Debug, PartialEq, Eq)]
+#[derive(Clone, Copy, PartialEq, Eq)]
 pub struct Notice {
     /// It is slow (RFC 4340, section 11.6).
     pub slow: bool,

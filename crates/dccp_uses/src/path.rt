@@ -14,7 +14,7 @@ use path_rules::{
 };
 
 /// A packet that was sent, and when.
-#[derive(Clone, Copy, Debug, PartialEq, Eq)]
+#[derive(Clone, Copy)]
 pub struct TimedPacket {
     /// Its number.
     pub number: Seq48,
@@ -23,7 +23,7 @@ pub struct TimedPacket {
 }
 
 /// What the owner of an end keeps of its path. The fields of a rule that it does not follow do not change.
-#[derive(Clone, Copy, Debug, PartialEq, Eq)]
+#[derive(Clone, Copy)]
 pub struct Path {
     /// The rules that are followed.
     pub pace: Pace,

@@ -11,7 +11,7 @@ use path_rules::{
 };
 
 /// What is known of the application that reads an end's data (RFC 4340, sections 11.6 and 11.7; RFC 4341, section 5.2).
-#[derive(Clone, Copy, Debug, PartialEq, Eq)]
+#[derive(Clone, Copy)]
 pub struct Reader {
     /// The number up to which reports of drops were counted. A packet that the peer takes after a later one was
     /// reported is not counted (own).

@@ -38,7 +38,7 @@ impl HeardDatagram {
 
 /// What the owner of an end keeps for it (own): its timers, and what is known of its path. After each call that the end
 /// took, call the one that says so, with the end and the time, in milliseconds since any moment.
-#[derive(Clone, Copy, Debug)]
+#[derive(Clone, Copy)]
 pub struct Upkeep {
     /// The timers that run.
     pub alarms: Alarms,
