@@ -25,8 +25,7 @@ impl Model for Intake {
 
 impl Intake {
     ghost use Rattle.std.specs.Prelude.{◌≡◌, ◌≤◌, ◌↔◌, IfOk, None, false};
-    ghost use Rattle.data_dropped.specs.Buffering.{HasDataWithin};
-    ghost use Rattle.data_dropped.specs.Intakes.{HasDataIfHeard, came_in, count_held, first_read, intake_of, most_said, read_over, spoken, settled_in, without_first, without_listener};
+    ghost use Rattle.data_dropped.specs.Intakes.{HasDataIfHeard, came_in, count_held, first_read, intake_of, most_said, read_over, spoken, without_first, without_listener};
 
     /// Data go to the owner at once.
     pub fn none() -> Intake
@@ -48,17 +47,6 @@ impl Intake {
         Ok(Intake { inbox: Some(inbox) })
     }
 
-    // A packet came with this outcome.
-    fn take_in(&mut self, number: Seq48, bytes: &[u8], outcome: &Outcome) -> Option<Arrival>
-        requires { HasDataWithin bytes.now outcome.now }
-        ensures { record { inbox = self.new; arrival = result } ≡ settled_in self.old number bytes.now outcome.now }
-    {
-        match &mut self.inbox {
-            Some(inbox) => settle(inbox, number, bytes, outcome),
-            None => None,
-        }
-    }
-
     /// A packet of this number arrived as these bytes, with this outcome, or was not heard. Its data go into the inbox,
     /// or are dropped. None if it delivers none, or if there is no inbox.
     pub fn settle(
@@ -70,8 +58,11 @@ impl Intake {
         requires { HasDataIfHeard bytes.now heard.now }
         ensures { record { inbox = self.new; arrival = result } ≡ came_in self.old number bytes.now heard.now }
     {
-        match heard {
-            Some(outcome) => self.take_in(number, bytes, outcome),
+        let Some(outcome) = heard else {
+            return None;
+        };
+        match &mut self.inbox {
+            Some(inbox) => settle(inbox, number, bytes, outcome),
             None => None,
         }
     }
