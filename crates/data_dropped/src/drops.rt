@@ -15,7 +15,7 @@ pub type DropBytes = ArrayVec<u8, MOST_OPTION_BYTES>;
 pub(crate) const SPAN: usize = 2048;
 
 /// Data that were dropped. No call gives one out; contracts speak of them.
-#[derive(Clone, Copy, Debug, PartialEq, Eq)]
+#[derive(Clone, Copy)]
 pub struct DropEntry {
     /// The number of the packet whose data they were.
     pub number: Seq48,

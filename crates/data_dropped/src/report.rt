@@ -12,7 +12,7 @@ use std::marker::Model;
 
 /// What a packet's Data Dropped options say of the numbers from its acknowledgement number downwards; several options
 /// continue each other (RFC 4340, section 11.7). Contracts see the acknowledgement number and the options' bytes.
-#[derive(Clone, Debug, Drop)]
+#[derive(Drop)]
 pub struct DropReport<'a> {
     ack: Seq48,
     options: OptList<'a>,
