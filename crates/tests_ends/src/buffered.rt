@@ -1,18 +1,14 @@
 //! The calls of an end with an inbox, except `receive`, each once with ample memory.
+use crate::fresh::buffered_end;
 use ccid_two::Kinds;
 use data_dropped::BufferedEnd;
 use dccp_endpoint::{
-    CloseFault, Config, Feature, OpenFault, Outbox, Phase, Place, PreferFault, Role, SendFault,
-    Timer,
+    CloseFault, Config, Feature, NoMemory, OpenFault, Outbox, Phase, Place, PreferFault, Role,
+    SendFault, Timer,
 };
 use std::alloc::Global;
 
 type Client = BufferedEnd<Kinds>;
-
-fn client(alloc: Global) -> Option<Client> {
-    let congestion = Kinds::new(alloc).ok()?;
-    BufferedEnd::new(alloc, Config::usual(Role::Client), congestion, 1).ok()
-}
 
 // The Request goes out once, with the number ISS.
 fn opens_once(client: &mut Client, out: &mut Outbox) -> bool {
@@ -59,11 +55,12 @@ fn plays(client: &mut Client) -> bool {
         && repeats_and_aborts(client, &mut out)
 }
 
-fn plays_anew(alloc: Global) -> Option<bool> {
-    Some(plays(&mut client(alloc)?))
+fn plays_anew(alloc: Global) -> Result<bool, NoMemory> {
+    let mut client = buffered_end(alloc, Config::usual(Role::Client), 1)?;
+    Ok(plays(&mut client))
 }
 
 #[test]
 fn calls_beside_an_inbox(rt: HostRuntime) {
-    assert!(rt; plays_anew(rt.alloc()) == Some(true));
+    assert!(rt; matches!(plays_anew(rt.alloc()), Ok(true)));
 }

@@ -48,16 +48,21 @@ const LONGER: [u8; 72] = [
     0x22, 4, 6, 1, 0, 0,
 ];
 
-// The bytes from this one on.
-fn key(first: u8) -> [u8; 32] {
-    let mut key = [0; 32];
-    let mut next = first;
-    for byte in key.iter_mut() {
-        *byte = next;
-        next = next.wrapping_add(1);
-    }
-    key
-}
+// Three keys, each of 32 bytes in turn.
+const FIRST_KEY: [u8; 32] = [
+    0, 1, 2, 3, 4, 5, 6, 7, 8, 9, 10, 11, 12, 13, 14, 15, 16, 17, 18, 19, 20, 21, 22, 23, 24, 25,
+    26, 27, 28, 29, 30, 31,
+];
+
+const SECOND_KEY: [u8; 32] = [
+    100, 101, 102, 103, 104, 105, 106, 107, 108, 109, 110, 111, 112, 113, 114, 115, 116, 117, 118,
+    119, 120, 121, 122, 123, 124, 125, 126, 127, 128, 129, 130, 131,
+];
+
+const THIRD_KEY: [u8; 32] = [
+    200, 201, 202, 203, 204, 205, 206, 207, 208, 209, 210, 211, 212, 213, 214, 215, 216, 217, 218,
+    219, 220, 221, 222, 223, 224, 225, 226, 227, 228, 229, 230, 231,
+];
 
 fn four(last: u8) -> Route {
     Route {
@@ -105,15 +110,17 @@ fn is_good(keys: &CookieKeys, route: &Route, bytes: &[u8], now: u64) -> bool {
 fn hashes_are_those_of_the_standard(rt: HostRuntime) {
     let mut first = [0; 32];
     first[..20].fill(0x0b);
-    assert!(rt; keyed_hash(&first, b"Hi There") == HI_THERE);
     let mut second = [0; 32];
     second[..4].copy_from_slice(b"Jefe");
-    assert!(rt; keyed_hash(&second, b"what do ya want for nothing?") == WHAT_DO_YA_WANT);
+    assert!(rt;
+        keyed_hash(&first, b"Hi There") == HI_THERE
+            && keyed_hash(&second, b"what do ya want for nothing?") == WHAT_DO_YA_WANT
+    );
 }
 
 #[test]
 fn a_cookie_byte_by_byte(rt: HostRuntime) {
-    let keys = CookieKeys::new(key(0), 0);
+    let keys = CookieKeys::new(FIRST_KEY, 0);
     assert!(rt; written(&keys, &four(1)).as_slice() == COOKIE.as_slice());
     assert!(rt; written(&keys, &six()).as_slice().starts_with(&SIX_TAG));
 }
@@ -129,7 +136,7 @@ const TRIES: [(u8, u64, bool); 5] = [
 
 #[test]
 fn a_cookie_is_good_for_two_minutes_on_its_route(rt: HostRuntime) {
-    let keys = CookieKeys::new(key(0), 0);
+    let keys = CookieKeys::new(FIRST_KEY, 0);
     for (last, now, good) in &TRIES {
         assert!(rt;
             is_good(&keys, &four(*last), &COOKIE, *now) == *good,
@@ -138,20 +145,22 @@ fn a_cookie_is_good_for_two_minutes_on_its_route(rt: HostRuntime) {
     }
     let mut changed = COOKIE;
     changed[39] = 0;
-    assert!(rt; !is_good(&keys, &four(1), &changed, 1000));
-    assert!(rt; !is_good(&keys, &four(1), &COOKIE[..31], 1000));
+    assert!(rt;
+        !is_good(&keys, &four(1), &changed, 1000) && !is_good(&keys, &four(1), &COOKIE[..31], 1000)
+    );
 }
 
 #[test]
 fn a_key_that_was_changed_is_good_for_what_it_wrote(rt: HostRuntime) {
-    let mut keys = CookieKeys::new(key(0), 0);
-    keys.change(key(100), 2000);
-    assert!(rt; is_good(&keys, &four(1), &COOKIE, 3000));
-    let mut late = CookieKeys::new(key(0), 0);
-    late.change(key(100), 1000);
-    assert!(rt; !is_good(&late, &four(1), &COOKIE, 3000));
-    keys.change(key(200), 4000);
-    assert!(rt; !is_good(&keys, &four(1), &COOKIE, 4000));
+    let mut keys = CookieKeys::new(FIRST_KEY, 0);
+    keys.change(SECOND_KEY, 2000);
+    let kept = is_good(&keys, &four(1), &COOKIE, 3000);
+    let mut late = CookieKeys::new(FIRST_KEY, 0);
+    late.change(SECOND_KEY, 1000);
+    let too_late = is_good(&late, &four(1), &COOKIE, 3000);
+    keys.change(THIRD_KEY, 4000);
+    let forgotten = !is_good(&keys, &four(1), &COOKIE, 4000);
+    assert!(rt; kept && !too_late && forgotten);
 }
 
 #[test]
@@ -199,12 +208,18 @@ fn returned(area: &[u8; 16]) -> CookieOption {
 }
 
 // Two Init Cookies of two bytes are no cookie; after NDP Counts the only one is found.
+const RETURNED: [([u8; 16], &[u8]); 3] = [
+    ([36, 4, 1, 2, 36, 4, 3, 4, 0, 0, 0, 0, 0, 0, 0, 0], &[]),
+    (
+        [37, 4, 1, 2, 36, 4, 3, 4, 37, 3, 9, 0, 0, 0, 0, 0],
+        &[36, 4, 3, 4],
+    ),
+    ([37, 4, 1, 2, 37, 4, 3, 4, 0, 0, 0, 0, 0, 0, 0, 0], &[]),
+];
+
 #[test]
 fn a_client_returns_one_cookie(rt: HostRuntime) {
-    let two = [36, 4, 1, 2, 36, 4, 3, 4, 0, 0, 0, 0, 0, 0, 0, 0];
-    assert!(rt; returned(&two).is_empty());
-    let one = [37, 4, 1, 2, 36, 4, 3, 4, 37, 3, 9, 0, 0, 0, 0, 0];
-    assert!(rt; returned(&one).as_slice() == [36, 4, 3, 4].as_slice());
-    let none = [37, 4, 1, 2, 37, 4, 3, 4, 0, 0, 0, 0, 0, 0, 0, 0];
-    assert!(rt; returned(&none).is_empty());
+    for (place, (area, cookie)) in RETURNED.iter().enumerate() {
+        assert!(rt; returned(area).as_slice() == *cookie, "area {place}");
+    }
 }

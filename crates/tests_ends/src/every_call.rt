@@ -1,13 +1,15 @@
 //! Public calls of dccp_endpoint, dccp_uses and data_dropped, each once with ample memory, that neither the program nor
 //! another test makes.
+use crate::fresh::{boxed, end};
 use ccid_two::Kinds;
 use data_dropped::DropReport;
 use dccp_endpoint::{
-    Config, Congestion, Endpoint, Frame, Ports, Pseudo, Role, Seq48, Standing, feed,
+    Config, Congestion, Endpoint, Frame, NoMemory, Ports, Pseudo, Role, Seq48, Standing, feed,
 };
 use dccp_options::{AckReport, options};
 use dccp_uses::{AdditiveWindow, Network, OneAtATime, Pace, Session};
 use std::alloc::Global;
+use std::slice::from_ref;
 
 // A Request of the usual client.
 const REQUEST: [u8; 20] = [
@@ -31,20 +33,19 @@ fn client() -> Option<Config> {
 // Whether an end has taken a Request, and knows nothing about a number that it did not send.
 fn takes(end: &mut Endpoint<Kinds>) -> Option<bool> {
     let frame = Frame::of(&REQUEST)?;
-    let taken = feed(end, &[frame]);
+    let taken = feed(end, from_ref(&frame));
     let number = Seq48::new(1000)?;
     Some(taken == 1 && !end.is_reported(number) && !end.stands(number, Standing::Out))
 }
 
-fn is_fed(alloc: Global) -> Option<bool> {
-    let congestion = Kinds::new(alloc).ok()?;
-    let mut end = Endpoint::new(alloc, Config::usual(Role::Server), congestion).ok()?;
-    takes(&mut end)
+fn is_fed(alloc: Global) -> Result<Option<bool>, NoMemory> {
+    let mut end = end(alloc, Config::usual(Role::Server))?;
+    Ok(takes(&mut end))
 }
 
 #[test]
 fn an_end_is_fed(rt: HostRuntime) {
-    assert!(rt; is_fed(rt.alloc()) == Some(true));
+    assert!(rt; matches!(is_fed(rt.alloc()), Ok(Some(true))));
 }
 
 // Counts the frames that it is handed.
@@ -70,10 +71,19 @@ fn opens_and_aborts(session: &mut Session<OneAtATime>) -> bool {
         && network.0 == 1
 }
 
+fn session(alloc: Global, config: Config) -> Result<Box<Session<OneAtATime>>, NoMemory> {
+    let congestion = OneAtATime::new(alloc)?;
+    boxed(
+        alloc,
+        Session::new(alloc, config, congestion, Pace::classic())?,
+    )
+}
+
 fn is_aborted(alloc: Global) -> Option<bool> {
-    let congestion = OneAtATime::new(alloc).ok()?;
-    let mut session = Session::new(alloc, client()?, congestion, Pace::classic()).ok()?;
-    Some(opens_and_aborts(&mut session))
+    match session(alloc, client()?) {
+        Ok(mut session) => Some(opens_and_aborts(&mut session)),
+        Err(NoMemory) => None,
+    }
 }
 
 #[test]
@@ -99,14 +109,17 @@ fn starts_anew(kind: &mut AdditiveWindow) -> bool {
     kind.knows(249) && kind.window() == 1
 }
 
-fn grows(alloc: Global) -> Option<bool> {
-    let mut kind = AdditiveWindow::new(alloc).ok()?;
-    Some(hears(&mut kind)? && starts_anew(&mut kind))
+fn grows(kind: &mut AdditiveWindow) -> Option<bool> {
+    Some(hears(kind)? && starts_anew(kind))
+}
+
+fn grows_anew(alloc: Global) -> Result<Option<bool>, NoMemory> {
+    Ok(grows(&mut AdditiveWindow::new(alloc)?))
 }
 
 #[test]
 fn an_own_window_grows(rt: HostRuntime) {
-    assert!(rt; grows(rt.alloc()) == Some(true));
+    assert!(rt; matches!(grows_anew(rt.alloc()), Ok(Some(true))));
 }
 
 fn code() -> Option<u8> {

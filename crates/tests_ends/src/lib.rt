@@ -16,6 +16,8 @@ mod every_call;
 #[cfg(test)]
 mod features;
 #[cfg(test)]
+mod fresh;
+#[cfg(test)]
 mod inboxes;
 #[cfg(test)]
 mod listeners;

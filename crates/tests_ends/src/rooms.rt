@@ -1,8 +1,9 @@
 //! Whether an acknowledgement has room for what an inbox has to say: it has two full Ack Vectors and many Confirms.
+use crate::fresh::{buffered_end, plain};
 use arrayvec::ArrayVec;
 use ccid_two::Kinds;
 use data_dropped::BufferedEnd;
-use dccp_endpoint::{Config, Feature, Frame, Outbox, Place, Role, Vectors, seal_frame};
+use dccp_endpoint::{Config, Feature, Frame, NoMemory, Outbox, Place, Role, Vectors, seal_frame};
 use std::alloc::Global;
 
 type Server = BufferedEnd<Kinds>;
@@ -16,6 +17,11 @@ const REQUEST: [u8; 24] = [
 
 const ACK: [u8; 24] = [
     0x9c, 0x40, 0x13, 0x89, 6, 0, 0, 0, 7, 0, 0, 0, 0, 0, 0x03, 0xe9, 0, 0, 0, 0, 0, 0, 0x07, 0xd0,
+];
+
+// An Ack 1603 of 2071, whose Data Offset is to be set.
+const LATE_ACK: [u8; 24] = [
+    0x9c, 0x40, 0x13, 0x89, 0, 0, 0, 0, 7, 0, 0, 0, 0, 0, 0x06, 0x43, 0, 0, 0, 0, 0, 0, 0x08, 0x17,
 ];
 
 const DATA: [u8; 17] = [
@@ -33,17 +39,12 @@ const COVERAGES: [u64; 8] = [0, 1, 2, 3, 4, 5, 6, 7];
 
 // The server, which reports up to 506 bytes of its history, and wishes for eight values of Minimum Checksum Coverage.
 fn config() -> Option<Config> {
-    let mut config = Config::usual(Role::Server);
-    config.plain();
+    let mut config = plain(Role::Server);
     config.vectors = Vectors::Two;
     for place in &[Place::Here, Place::There] {
         config.set(Feature::MinCsCov, *place, &COVERAGES).ok()?;
     }
     Some(config)
-}
-
-fn server(alloc: Global) -> Option<Server> {
-    BufferedEnd::new(alloc, config()?, Kinds::new(alloc).ok()?, 1).ok()
 }
 
 fn receive(server: &mut Server, bytes: &[u8], out: &mut Outbox) -> Option<()> {
@@ -68,35 +69,18 @@ fn drop_many(server: &mut Server, out: &mut Outbox) -> Option<()> {
     Some(())
 }
 
-// Puts an Ack with these Changes and this many more, for unknown features: 3 bytes each in the answer.
+// Puts an Ack with these Changes and this many more, for unknown features: 3 bytes each in the answer. Each has a word
+// in the Data Offset, and Padding fills the last word.
 fn put_changes(bytes: &mut Bytes, unknown: u8) -> Option<()> {
-    bytes.try_extend_from_slice(&ACK).ok()?;
+    let unknown = unknown.min(100);
+    let mut ack = LATE_ACK;
+    ack[4] = 17 + unknown;
+    bytes.try_extend_from_slice(&ack).ok()?;
     bytes.try_extend_from_slice(&CHANGES).ok()?;
-    for feature in 128..128 + unknown.min(100) {
+    for feature in 128..128 + unknown {
         bytes.try_extend_from_slice(&[34, 4, feature, 0]).ok()?;
     }
-    fill(bytes)?;
-    set_header(bytes)
-}
-
-// Fills the last word with Padding.
-fn fill(bytes: &mut Bytes) -> Option<()> {
-    for _ in 0..3 {
-        if bytes.len() % 4 != 0 {
-            bytes.try_push(0).ok()?;
-        }
-    }
-    Some(())
-}
-
-// Sets the Data Offset to all of the bytes, the number to 1603, and the acknowledgement number to 2071.
-fn set_header(bytes: &mut Bytes) -> Option<()> {
-    *bytes.get_mut(4)? = (bytes.len() / 4) as u8;
-    *bytes.get_mut(14)? = 0x06;
-    *bytes.get_mut(15)? = 0x43;
-    *bytes.get_mut(22)? = 0x08;
-    *bytes.get_mut(23)? = 0x17;
-    Some(())
+    bytes.try_extend_from_slice(&[0; 3]).ok()
 }
 
 // Opens the connection, and lets many data packets arrive.
@@ -124,14 +108,23 @@ fn answered(server: &mut Server, unknown: u8) -> Option<(usize, u8)> {
 
 // The same for a new server, when this many Changes of unknown features arrive.
 fn answer(alloc: Global, unknown: u8) -> Option<(usize, u8)> {
-    let mut server = server(alloc)?;
-    answered(&mut server, unknown)
+    let config = config()?;
+    match buffered_end(alloc, config, 1) {
+        Ok(mut server) => answered(&mut server, unknown),
+        Err(NoMemory) => None,
+    }
 }
 
 // After a header of 24 bytes and vectors of 510 there are Confirms of 229 bytes, or of 232 with one more. Data Dropped
 // and Slow Receiver take 256. Together these are 1,020 bytes, or 1,024, which the Data Offset cannot say.
 #[test]
 fn room_for_a_report(rt: HostRuntime) {
-    assert!(rt; answer(rt.alloc(), 54) == Some((1020, 2)), "room for it");
-    assert!(rt; answer(rt.alloc(), 55) == Some((768, 0)), "no room for it");
+    assert!(rt;
+        matches!(answer(rt.alloc(), 54), Some((1020, 2))),
+        "room for it"
+    );
+    assert!(rt;
+        matches!(answer(rt.alloc(), 55), Some((768, 0))),
+        "no room for it"
+    );
 }

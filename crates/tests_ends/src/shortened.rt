@@ -1,9 +1,9 @@
 //! Short numbers at an end with an inbox. Their low 24 bits wrap around among the data. So dropped data are reported by
 //! full numbers: that of the frame that brought them, and that of the frame that reports them.
+use crate::fresh::{buffered_end, plain};
 use ccid_two::Kinds;
 use data_dropped::{Arrival, BufferedEnd};
-use dccp_endpoint::{Config, Feature, NoMemory, Outbox, Place, Role};
-use std::alloc::Global;
+use dccp_endpoint::{Config, Feature, Outbox, Place, Role};
 use std::test::Fail;
 
 type Server = BufferedEnd<Kinds>;
@@ -67,16 +67,10 @@ const STORY: [(&[u8], Option<Arrival>, &[u8]); 6] = [
 
 // A server that offers nothing, and takes and sends short numbers if it is asked to.
 fn config() -> Option<Config> {
-    let mut config = Config::usual(Role::Server);
-    config.plain();
+    let mut config = plain(Role::Server);
     config.set(Feature::ShortSeqnos, Place::Here, &[1]).ok()?;
     config.set(Feature::ShortSeqnos, Place::There, &[1]).ok()?;
     Some(config)
-}
-
-fn server(alloc: Global, config: Config) -> Result<Server, NoMemory> {
-    let congestion = Kinds::new(alloc)?;
-    BufferedEnd::new(alloc, config, congestion, 1)
 }
 
 fn sends(out: &Outbox, bytes: &[u8]) -> bool {
@@ -112,6 +106,6 @@ fn drops_under_short_numbers(rt: HostRuntime) -> Result<(), Fail> {
     let Some(config) = config() else {
         return Err(Fail::from("a value that is refused"));
     };
-    let mut server = server(rt.alloc(), config)?;
+    let mut server = buffered_end(rt.alloc(), config, 1)?;
     plays(&mut server)
 }

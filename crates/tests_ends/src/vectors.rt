@@ -1,5 +1,6 @@
 //! Ack Vectors in one option and in two, of an end that has received every second number from 0 to 504: each is
 //! reported by a separate byte, and so is each number between two.
+use crate::fresh::{end, plain};
 use ccid_two::Kinds;
 use dccp_endpoint::{Config, Endpoint, Frame, NoMemory, Outbox, Role, Timer, Vectors, seal_frame};
 use dccp_options::kinds::ACK_VECTOR_0;
@@ -19,13 +20,6 @@ const ACK: [u8; 24] = [
 const DATA: [u8; 17] = [
     0x9c, 0x40, 0x13, 0x89, 4, 0, 0, 0, 5, 0, 0, 0, 0, 0, 0, 0, 0xaa,
 ];
-
-fn server(alloc: Global, vectors: Vectors) -> Result<Endpoint<Kinds>, NoMemory> {
-    let mut config = Config::usual(Role::Server);
-    config.plain();
-    config.vectors = vectors;
-    Endpoint::new(alloc, config, Kinds::new(alloc)?)
-}
 
 fn receive(server: &mut Endpoint<Kinds>, bytes: &[u8], out: &mut Outbox) -> Option<()> {
     let mut frame = Frame::of(bytes)?;
@@ -93,17 +87,25 @@ fn acknowledges(server: &mut Endpoint<Kinds>) -> Option<(Option<Vector>, Option<
 }
 
 fn acknowledged(alloc: Global, vectors: Vectors) -> Option<(Option<Vector>, Option<Vector>)> {
-    acknowledges(&mut server(alloc, vectors).ok()?)
+    let mut config = plain(Role::Server);
+    config.vectors = vectors;
+    match end(alloc, config) {
+        Ok(mut server) => acknowledges(&mut server),
+        Err(NoMemory) => None,
+    }
 }
 
 // Of the 505 bytes one option has 253, and two have 253 and 252: their lengths are 255 and 254.
 #[test]
 fn an_ack_with_two_vectors(rt: HostRuntime) {
     let one = acknowledged(rt.alloc(), Vectors::One);
-    assert!(rt; one == Some((Some((253, 0x00)), None)), "one option");
+    assert!(rt;
+        matches!(one, Some((Some((253, 0x00)), None))),
+        "one option"
+    );
     let two = acknowledged(rt.alloc(), Vectors::Two);
     assert!(rt;
-        two == Some((Some((253, 0x00)), Some((252, 0xc0)))),
+        matches!(two, Some((Some((253, 0x00)), Some((252, 0xc0))))),
         "two options"
     );
 }

@@ -12,7 +12,7 @@ use Rattle.data_dropped.specs.declared.answers.Arrival.TheVariants.{Kept, Droppe
 use Rattle.data_dropped.specs.declared.drops.DropEntry.{DropEntry}
 
 -- A call: data arrive under a number, or longer ones than an inbox takes; this many arrive, each a step above the last, and are dropped with one
--- code; an item is taken; the application stops; whether it is slow; and the report at a number, whole or its last bytes.
+-- code; an item is taken; the application stops; whether it is slow; and the report at a number.
 data Call : Type 0 where
   Arrive : (number : ℕ) (payload : List ℕ) → Call
   Long : (number : ℕ) → Call
@@ -21,9 +21,8 @@ data Call : Type 0 where
   Stop : Call
   Slow : Call
   Write : (ack : ℕ) → Call
-  WriteEnd : (ack count : ℕ) → Call
 
--- What comes of it. Of a report: its bytes, or how many they are and the last of them; and whether they are whole.
+-- What comes of it. Of a report: its bytes, and whether they are whole.
 data Answer : Type 0 where
   Came : (arrival : Arrival) → Answer
   TookOver : (number count : ℕ) (array : List ℕ) → Answer
@@ -31,7 +30,6 @@ data Answer : Type 0 where
   Stopped : Answer
   IsSlow : Bool → Answer
   Wrote : (bytes : List ℕ) (whole : Bool) → Answer
-  Ended : (count : ℕ) (last : List ℕ) (whole : Bool) → Answer
 
 -- this many arrive, each a step above the last
 abbrev each : InboxState → ℕ → ℕ → ℕ → InboxState
@@ -56,14 +54,11 @@ after held Take = taking held
 after held Stop = stopping held
 after held Slow = held
 after held (Write ack) = held
-after held (WriteEnd ack count) = held
 
--- the last of these bytes
-abbrev last : ℕ → List ℕ → List ℕ
-last count given = drop (length given - count) given
-
-abbrev ended : ℕ → List ℕ → Bool → Answer
-ended count given whole = Ended (length given) (last count given) whole
+-- this many times a number without a drop and one with
+abbrev in_turn : ℕ → List ℕ
+in_turn zero = []
+in_turn (suc count) = 0 ∷ 160 ∷ in_turn count
 
 abbrev answer : InboxState → Call → Answer
 answer held (Arrive number payload) = Came (arrival_answer held)
@@ -73,7 +68,6 @@ answer held Take = taken held.items (first_taken held.items)
 answer held Stop = Stopped
 answer held Slow = IsSlow (is_slow held)
 answer held (Write ack) = Wrote (drop_bytes held.drops ack) (tells_all held.drops ack)
-answer held (WriteEnd ack count) = ended count (drop_bytes held.drops ack) (tells_all held.drops ack)
 
 abbrev answers : InboxState → List Call → List Answer
 answers held [] = []
@@ -173,9 +167,9 @@ cut_at_253_bytes :
     Comes 1
     ((Arrive 0 [], Came Kept)
     ∷ (ArriveEach 1 126 2, Came (Dropped 2))
-    ∷ (WriteEnd 252 2, Ended 252 (0 ∷ 160 ∷ []) true)
+    ∷ (Write 252, Wrote (in_turn 126) true)
     ∷ (ArriveEach 253 2 2, Came (Dropped 2))
-    ∷ (WriteEnd 256 2, Ended 253 (160 ∷ 0 ∷ []) false)
+    ∷ (Write 256, Wrote (in_turn 126 ++ 0 ∷ []) false)
     ∷ [])
 unfolding code_table
 cut_at_253_bytes = refl
@@ -185,8 +179,8 @@ whole_at_253_bytes :
     Comes 1
     ((Arrive 0 [], Came Kept)
     ∷ (ArriveEach 1 127 2, Came (Dropped 2))
-    ∷ (WriteEnd 253 2, Ended 253 (0 ∷ 160 ∷ []) true)
-    ∷ (WriteEnd 254 2, Ended 253 (160 ∷ 0 ∷ []) false)
+    ∷ (Write 253, Wrote (160 ∷ in_turn 126) true)
+    ∷ (Write 254, Wrote (in_turn 126 ++ 0 ∷ []) false)
     ∷ [])
 unfolding code_table
 whole_at_253_bytes = refl

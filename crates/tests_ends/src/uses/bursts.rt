@@ -7,9 +7,7 @@
 //! that arrives and whose Response arrives; the client's timers ack and negotiate run from the first of these turns,
 //! the server's from the second.
 use crate::uses::pair::Pair;
-use ccid_two::Kinds;
-use dccp_endpoint::{Config, Feature, Held, Phase, Role, Stand};
-use dccp_uses::{Pace, Session};
+use dccp_endpoint::{Feature, Held, NoMemory, Phase, Role, Stand};
 use std::alloc::Global;
 
 #[derive(Clone, Copy)]
@@ -125,17 +123,9 @@ fn time_of(pair: &mut Pair, goal: Goal, lost: usize) -> Option<u64> {
 
 // Only this function owns a pair.
 fn measured(alloc: Global, goal: Goal, lost: usize) -> Option<u64> {
-    let Ok(congestion) = Kinds::new(alloc) else {
-        return None;
-    };
-    match Session::new(
-        alloc,
-        Config::usual(Role::Client),
-        congestion,
-        Pace::classic(),
-    ) {
-        Ok(client) => time_of(&mut Pair::whole(alloc, client), goal, lost),
-        Err(_) => None,
+    match Pair::whole(alloc) {
+        Ok(mut pair) => time_of(&mut pair, goal, lost),
+        Err(NoMemory) => None,
     }
 }
 

@@ -1,8 +1,9 @@
 //! The session of a client returns the Init Cookie of its server's Response (RFC 4340, section 8.1.4). The frames were
 //! worked out by hand, and their checksums by another program.
+use crate::fresh::{plain, session};
 use crate::uses::wire::Wire;
 use ccid_two::Kinds;
-use dccp_endpoint::{Config, NoMemory, Phase, Role};
+use dccp_endpoint::{NoMemory, Phase, Role};
 use dccp_uses::{Pace, Session};
 use std::alloc::Global;
 
@@ -50,11 +51,8 @@ const CLOSE: [u8; 24] = [
 ];
 
 // A client that offers nothing.
-fn client(alloc: Global) -> Result<Session<Kinds>, NoMemory> {
-    let mut config = Config::usual(Role::Client);
-    config.plain();
-    let congestion = Kinds::new(alloc)?;
-    Session::new(alloc, config, congestion, Pace::classic())
+fn client(alloc: Global) -> Result<Box<Session<Kinds>>, NoMemory> {
+    session(alloc, plain(Role::Client), Pace::classic())
 }
 
 // Whether the next frame that goes out has these bytes.
@@ -84,11 +82,13 @@ fn closes(client: &mut Session<Kinds>, wire: &mut Wire) -> bool {
     client.end().phase() == Phase::Open && client.close(310, wire).is_ok() && goes_out(wire, &CLOSE)
 }
 
+fn returns(client: &mut Session<Kinds>, wire: &mut Wire) -> bool {
+    connects(client, wire, &RESPONSE, &ACK) && repeats(client, wire) && closes(client, wire)
+}
+
 fn returns_until_open(alloc: Global) -> Result<bool, NoMemory> {
     let mut client = client(alloc)?;
-    let mut wire = Wire::whole(alloc);
-    let connected = connects(&mut client, &mut wire, &RESPONSE, &ACK);
-    Ok(connected && repeats(&mut client, &mut wire) && closes(&mut client, &mut wire))
+    Ok(returns(&mut client, &mut Wire::whole(alloc)))
 }
 
 #[test]
@@ -98,9 +98,12 @@ fn a_session_returns_its_cookie(rt: HostRuntime) {
 
 fn returns_neither(alloc: Global) -> Result<bool, NoMemory> {
     let mut client = client(alloc)?;
-    let mut wire = Wire::whole(alloc);
-    let connected = connects(&mut client, &mut wire, &TWO_COOKIES, &PLAIN_ACK);
-    Ok(connected)
+    Ok(connects(
+        &mut client,
+        &mut Wire::whole(alloc),
+        &TWO_COOKIES,
+        &PLAIN_ACK,
+    ))
 }
 
 // If a Response has two, none is returned (own).

@@ -1,5 +1,6 @@
 //! A sender that heeds what its peer's receive buffer reports, in counted time. A turn of 50 milliseconds is a round trip.
 //! The peer holds eight packets; its owner reads none, or two a turn, or listens no more.
+use crate::fresh::{boxed, buffered_end};
 use crate::uses::wire::Wire;
 use ccid_two::Kinds;
 use data_dropped::BufferedEnd;
@@ -17,8 +18,8 @@ const CAPACITY: u16 = 8;
 #[derive(Drop)]
 struct Pair {
     now: u64,
-    sender: TimedEnd<Kinds>,
-    reader: BufferedEnd<Kinds>,
+    sender: Box<TimedEnd<Kinds>>,
+    reader: Box<BufferedEnd<Kinds>>,
     to_sender: Wire,
     to_reader: Wire,
     read: u32,
@@ -31,25 +32,19 @@ fn post(out: &Outbox, wire: &mut Wire) {
     }
 }
 
-fn sender(alloc: Global) -> Result<TimedEnd<Kinds>, NoMemory> {
+fn sender(alloc: Global) -> Result<Box<TimedEnd<Kinds>>, NoMemory> {
     let congestion = Kinds::new(alloc)?;
-    TimedEnd::new(
+    let config = Config::usual(Role::Client);
+    boxed(
         alloc,
-        Config::usual(Role::Client),
-        congestion,
-        Pace::usual(),
+        TimedEnd::new(alloc, config, congestion, Pace::usual())?,
     )
-}
-
-fn reader(alloc: Global) -> Result<BufferedEnd<Kinds>, NoMemory> {
-    let congestion = Kinds::new(alloc)?;
-    BufferedEnd::new(alloc, Config::usual(Role::Server), congestion, CAPACITY)
 }
 
 impl Pair {
     fn new(alloc: Global) -> Result<Pair, NoMemory> {
         let sender = sender(alloc)?;
-        let reader = reader(alloc)?;
+        let reader = buffered_end(alloc, Config::usual(Role::Server), CAPACITY)?;
         Ok(Pair {
             now: 5_000,
             sender,
@@ -60,19 +55,24 @@ impl Pair {
         })
     }
 
-    fn hear_reader(&mut self, datagram: &[u8]) {
+    // The next frame of the reader arrives, if there is one.
+    fn hear_reader(&mut self) {
         let mut out = Outbox::new();
-        if datagram.len() <= 2_044 {
-            let decoded = DecodedDatagram::new(datagram);
+        if let Some(datagram) = self.to_sender.take()
+            && datagram.len() <= 2_044
+        {
+            let decoded = DecodedDatagram::new(&datagram);
             let _ = self.sender.receive(&decoded, self.now, &mut out);
             post(&out, &mut self.to_reader);
         }
     }
 
-    fn hear_sender(&mut self, datagram: &[u8]) {
+    fn hear_sender(&mut self) {
         let mut out = Outbox::new();
-        if datagram.len() <= 2_044 {
-            let _ = self.reader.receive(datagram, &mut out);
+        if let Some(datagram) = self.to_reader.take()
+            && datagram.len() <= 2_044
+        {
+            let _ = self.reader.receive(&datagram, &mut out);
             post(&out, &mut self.to_sender);
         }
     }
@@ -98,14 +98,10 @@ impl Pair {
     fn turn(&mut self) {
         self.now = self.now.saturating_add(TURN);
         for _ in 0..80 {
-            if let Some(datagram) = self.to_reader.take() {
-                self.hear_sender(&datagram);
-            }
+            self.hear_sender();
         }
         for _ in 0..80 {
-            if let Some(datagram) = self.to_sender.take() {
-                self.hear_reader(&datagram);
-            }
+            self.hear_reader();
         }
         self.acknowledge();
         self.tick();

@@ -1,6 +1,7 @@
 //! Sessions, one of which holds what arrives in an inbox, in counted time. A turn of 50 milliseconds is a round trip.
 //! The inbox has room for eight packets; its owner reads none, or two a turn, or no longer listens, and closes at the
 //! end.
+use crate::fresh::{boxed, session};
 use crate::uses::wire::Wire;
 use ccid_two::Kinds;
 use data_dropped::Intake;
@@ -29,18 +30,13 @@ struct ReaderNews {
 #[derive(Drop)]
 struct Pair {
     now: u64,
-    sender: Session<Kinds>,
-    reader: Session<Kinds>,
+    sender: Box<Session<Kinds>>,
+    reader: Box<Session<Kinds>>,
     to_sender: Wire,
     to_reader: Wire,
     told: ReaderNews,
     sent: u8,
     read: u32,
-}
-
-fn session(alloc: Global, role: Role) -> Result<Session<Kinds>, NoMemory> {
-    let congestion = Kinds::new(alloc)?;
-    Session::new(alloc, Config::usual(role), congestion, Pace::usual())
 }
 
 fn told_of(told: &ReaderNews, news: News) -> ReaderNews {
@@ -58,11 +54,19 @@ fn told_of(told: &ReaderNews, news: News) -> ReaderNews {
     told
 }
 
+// A server's session with an inbox.
+fn reader(alloc: Global) -> Result<Box<Session<Kinds>>, NoMemory> {
+    let intake = Intake::new(alloc, CAPACITY)?;
+    let congestion = Kinds::new(alloc)?;
+    let config = Config::usual(Role::Server);
+    let session = Session::new(alloc, config, congestion, Pace::usual())?;
+    boxed(alloc, session.holding(intake))
+}
+
 impl Pair {
     fn new(alloc: Global) -> Result<Pair, NoMemory> {
-        let intake = Intake::new(alloc, CAPACITY)?;
-        let reader = session(alloc, Role::Server)?.holding(intake);
-        let sender = session(alloc, Role::Client)?;
+        let reader = reader(alloc)?;
+        let sender = session(alloc, Config::usual(Role::Client), Pace::usual())?;
         Ok(Pair {
             now: 5_000,
             sender,
@@ -81,13 +85,22 @@ impl Pair {
         })
     }
 
-    fn hear_sender(&mut self, datagram: &[u8]) {
-        let news = self.reader.arrived(datagram, self.now, &mut self.to_sender);
-        self.told = told_of(&self.told, news);
+    // The next frame of the sender arrives, if there is one.
+    fn hear_sender(&mut self) {
+        if let Some(datagram) = self.to_reader.take() {
+            let news = self
+                .reader
+                .arrived(&datagram, self.now, &mut self.to_sender);
+            self.told = told_of(&self.told, news);
+        }
     }
 
-    fn hear_reader(&mut self, datagram: &[u8]) {
-        let _ = self.sender.arrived(datagram, self.now, &mut self.to_reader);
+    fn hear_reader(&mut self) {
+        if let Some(datagram) = self.to_sender.take() {
+            let _ = self
+                .sender
+                .arrived(&datagram, self.now, &mut self.to_reader);
+        }
     }
 
     fn tick(&mut self) {
@@ -99,14 +112,10 @@ impl Pair {
     fn turn(&mut self) {
         self.now = self.now.saturating_add(TURN);
         for _ in 0..80 {
-            if let Some(datagram) = self.to_reader.take() {
-                self.hear_sender(&datagram);
-            }
+            self.hear_sender();
         }
         for _ in 0..80 {
-            if let Some(datagram) = self.to_sender.take() {
-                self.hear_reader(&datagram);
-            }
+            self.hear_reader();
         }
         self.tick();
     }

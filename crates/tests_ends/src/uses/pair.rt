@@ -1,8 +1,9 @@
 //! A client and a server with a wire in each direction, as their two owners drive them. If a call returns a bool, it
 //! says whether the step had its expected result.
+use crate::fresh::{boxed, session};
 use crate::uses::wire::Wire;
 use ccid_two::Kinds;
-use dccp_endpoint::{Config, Feature, Held, Phase, Place, Role, SendFault, Timer};
+use dccp_endpoint::{Config, Feature, Held, NoMemory, Phase, Place, Role, SendFault, Timer};
 use dccp_uses::{Alarms, News, Pace, Restraint, SendRefusal, Session, accept};
 use std::alloc::Global;
 
@@ -15,8 +16,8 @@ const TURN: u64 = 50;
 pub(crate) struct Pair {
     alloc: Global,
     now: u64,
-    client: Session<Kinds>,
-    server: Option<Session<Kinds>>,
+    client: Box<Session<Kinds>>,
+    server: Option<Box<Session<Kinds>>>,
     to_server: Wire,
     to_client: Wire,
     pub(crate) client_ended: Option<u8>,
@@ -25,7 +26,12 @@ pub(crate) struct Pair {
 }
 
 // A server's session, if a stranger's datagram opens a connection.
-fn accepted(alloc: Global, datagram: &[u8], now: u64, wire: &mut Wire) -> Option<Session<Kinds>> {
+fn accepted(
+    alloc: Global,
+    datagram: &[u8],
+    now: u64,
+    wire: &mut Wire,
+) -> Option<Box<Session<Kinds>>> {
     let Ok(congestion) = Kinds::new(alloc) else {
         return None;
     };
@@ -38,8 +44,8 @@ fn accepted(alloc: Global, datagram: &[u8], now: u64, wire: &mut Wire) -> Option
         now,
         wire,
     ) {
-        Ok(session) => session,
-        Err(_) => None,
+        Ok(Some(session)) => boxed(alloc, session).ok(),
+        Ok(None) | Err(NoMemory) => None,
     }
 }
 
@@ -55,19 +61,21 @@ fn wait_in(alarms: &Alarms, timer: Timer) -> Option<u64> {
 }
 
 impl Pair {
-    /// This client, and a wire in each direction that loses frames by draws from this number.
-    pub(crate) fn new(alloc: Global, client: Session<Kinds>, seed: u64) -> Pair {
+    /// A client, and a wire in each direction that loses frames by draws from this number.
+    pub(crate) fn new(alloc: Global, seed: u64) -> Result<Pair, NoMemory> {
+        let client = session(alloc, Config::usual(Role::Client), Pace::classic())?;
         let to_server = Wire::drawn(alloc, seed);
         let to_client = Wire::drawn(alloc, seed.wrapping_add(1_000));
-        Pair::over(alloc, client, to_server, to_client)
+        Ok(Pair::over(alloc, client, to_server, to_client))
     }
 
-    /// This client, and a wire in each direction that loses nothing.
-    pub(crate) fn whole(alloc: Global, client: Session<Kinds>) -> Pair {
-        Pair::over(alloc, client, Wire::whole(alloc), Wire::whole(alloc))
+    /// A client, and a wire in each direction that loses nothing.
+    pub(crate) fn whole(alloc: Global) -> Result<Pair, NoMemory> {
+        let client = session(alloc, Config::usual(Role::Client), Pace::classic())?;
+        Ok(Pair::over(alloc, client, Wire::whole(alloc), Wire::whole(alloc)))
     }
 
-    fn over(alloc: Global, client: Session<Kinds>, to_server: Wire, to_client: Wire) -> Pair {
+    fn over(alloc: Global, client: Box<Session<Kinds>>, to_server: Wire, to_client: Wire) -> Pair {
         Pair {
             alloc,
             now: 5_000,

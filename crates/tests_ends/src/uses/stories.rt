@@ -3,9 +3,7 @@
 //! A story is a function that borrows its pair. A test holds no pair: the proof of a loop that holds one takes many
 //! times as long.
 use crate::uses::pair::Pair;
-use ccid_two::Kinds;
-use dccp_endpoint::{Config, Feature, Held, Phase, Role, Stand, Timer};
-use dccp_uses::{Pace, Session};
+use dccp_endpoint::{Feature, Held, NoMemory, Phase, Role, Stand, Timer};
 use std::alloc::Global;
 
 #[derive(Clone, Copy)]
@@ -99,17 +97,9 @@ fn holds(pair: &mut Pair, story: Story) -> bool {
 
 // Only this function owns a pair.
 fn is_true(alloc: Global, seed: u64, story: Story) -> bool {
-    let Ok(congestion) = Kinds::new(alloc) else {
-        return false;
-    };
-    match Session::new(
-        alloc,
-        Config::usual(Role::Client),
-        congestion,
-        Pace::classic(),
-    ) {
-        Ok(client) => holds(&mut Pair::new(alloc, client, seed), story),
-        Err(_) => false,
+    match Pair::new(alloc, seed) {
+        Ok(mut pair) => holds(&mut pair, story),
+        Err(NoMemory) => false,
     }
 }
 
