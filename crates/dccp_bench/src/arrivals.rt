@@ -10,6 +10,7 @@ use dccp_listener::{Heard, ListenConfig, Listener, Peer};
 use dccp_sum::seal;
 use std::alloc::Global;
 use std::io;
+use std::ops::Range;
 
 /// What comes, and where.
 #[derive(Clone, Copy)]
@@ -79,15 +80,6 @@ fn peer(place: u32) -> Peer {
     }
 }
 
-// The addresses of what it sends.
-fn from(place: u32) -> Pseudo {
-    let address = peer(place).address;
-    Pseudo::V4 {
-        from: address,
-        to: OWN_ADDRESS,
-    }
-}
-
 // What comes: a packet of the peer at this place, under this number.
 #[derive(Clone, Copy)]
 struct Arrival {
@@ -108,7 +100,9 @@ fn write(frame: &mut Frame, arrival: Arrival) {
     let bytes = frame.bytes_mut();
     if bytes.len() >= 16 {
         BigEndian::write_u32(&mut bytes[12..16], arrival.number);
-        let _ = seal(&from(arrival.place), bytes);
+        let from = peer(arrival.place).address;
+        let to = OWN_ADDRESS;
+        let _ = seal(&Pseudo::V4 { from, to }, bytes);
     }
 }
 
@@ -127,33 +121,12 @@ fn listening(alloc: Global) -> Listener {
     )
 }
 
-// A packet arrives at the listener. Returns whether it was answered.
-fn hear(
-    listener: &mut Listener,
-    frame: &mut Frame,
-    arrival: Arrival,
-    first: Seq48,
-    out: &mut Outbox,
-) -> bool {
-    write(frame, arrival);
-    let heard = listener.arrive(peer(arrival.place), first, frame.bytes(), out);
-    matches!(heard, Ok(Heard::Busy)) || out.frame().is_some()
-}
-
-// The first peers have their flows.
-fn fill(listener: &mut Listener, first: Seq48, out: &mut Outbox) {
-    let mut frame = frame_of(&REQUEST);
-    for place in 0..FLOWS {
-        let arrival = Arrival { place, number: 0 };
-        let _ = hear(listener, &mut frame, arrival, first, out);
-    }
-}
-
-// Hands over this many packets, of all peers in turn. Returns how many were answered.
+// Hands over this many packets, each of the peer that is a step after the one before. Returns how many were answered.
 fn hear_all(
     listener: &mut Listener,
     packet: &[u8],
     count: u32,
+    step: u32,
     first: Seq48,
     out: &mut Outbox,
 ) -> u32 {
@@ -161,21 +134,22 @@ fn hear_all(
     let mut answered = 0u32;
     let mut place = 0u32;
     for number in 0..count {
-        place = place.wrapping_add(STEP) % PEERS;
-        let arrival = Arrival { place, number };
-        if hear(listener, &mut frame, arrival, first, out) {
+        place = place.wrapping_add(step) % PEERS;
+        write(&mut frame, Arrival { place, number });
+        let heard = listener.arrive(peer(place), first, frame.bytes(), out);
+        if matches!(heard, Ok(Heard::Busy)) || out.frame().is_some() {
             answered = answered.wrapping_add(1);
         }
     }
     answered
 }
 
-// The same with this many packets, at a listener that has all its flows.
+// The same with this many packets, at a listener at which the first peers have all its flows.
 fn at_listener(alloc: Global, packet: &[u8], count: u32, first: Seq48) -> u32 {
     let mut listener = listening(alloc);
     let mut out = Outbox::new();
-    fill(&mut listener, first, &mut out);
-    hear_all(&mut listener, packet, count, first, &mut out)
+    let _ = hear_all(&mut listener, &REQUEST, FLOWS, 1, first, &mut out);
+    hear_all(&mut listener, packet, count, STEP, first, &mut out)
 }
 
 // The end that serves the first peer.
@@ -193,19 +167,19 @@ fn end(alloc: Global, first: Seq48) -> Option<Endpoint<Kinds>> {
     Endpoint::new(alloc, config, congestion).ok()
 }
 
-// A packet of the first peer arrives at its end. Returns whether it was answered.
-fn hear_alone(end: &mut Endpoint<Kinds>, frame: &mut Frame, number: u32, out: &mut Outbox) -> bool {
-    write(frame, Arrival { place: 0, number });
-    let _ = end.receive(frame.bytes(), out);
-    out.frame().is_some()
-}
-
-// Hands this many packets to an end, numbered from 1. Returns how many were answered.
-fn hear_all_alone(end: &mut Endpoint<Kinds>, packet: &[u8], count: u32, out: &mut Outbox) -> u32 {
+// Hands packets of the first peer with these numbers to its end. Returns how many were answered.
+fn hear_all_alone(
+    end: &mut Endpoint<Kinds>,
+    packet: &[u8],
+    numbers: Range<u32>,
+    out: &mut Outbox,
+) -> u32 {
     let mut frame = frame_of(packet);
     let mut answered = 0u32;
-    for number in 0..count {
-        if hear_alone(end, &mut frame, number.wrapping_add(1), out) {
+    for number in numbers {
+        write(&mut frame, Arrival { place: 0, number });
+        let _ = end.receive(frame.bytes(), out);
+        if out.frame().is_some() {
             answered = answered.wrapping_add(1);
         }
     }
@@ -218,9 +192,8 @@ fn at_end(alloc: Global, before: &[u8], packet: &[u8], count: u32, first: Seq48)
         return 0;
     };
     let mut out = Outbox::new();
-    let mut frame = frame_of(before);
-    let _ = hear_alone(&mut end, &mut frame, 0, &mut out);
-    hear_all_alone(&mut end, packet, count, &mut out)
+    let _ = hear_all_alone(&mut end, before, 0..1, &mut out);
+    hear_all_alone(&mut end, packet, 1..count.saturating_add(1), &mut out)
 }
 
 // This many datagrams that no end takes. Returns how many have separate numbers.
@@ -238,9 +211,11 @@ fn nowhere(count: u32) -> u32 {
     made
 }
 
-// How many were answered.
-fn answered(alloc: Global, load: Load, count: u32, first: Seq48) -> u32 {
-    match load {
+/// This many datagrams come. Prints how many were answered, so that none is left out.
+pub(crate) fn all(rt: &HostRuntime, load: Load, count: u32) -> io::Result<()> {
+    let alloc = rt.alloc();
+    let first = zero().add(2_000);
+    let answered = match load {
         Load::Requests => at_listener(alloc, &REQUEST, count, first),
         Load::Options => at_listener(alloc, &REQUEST_WITH_OPTIONS, count, first),
         Load::Faults => at_listener(alloc, &REQUEST_WITH_FAULT, count, first),
@@ -250,12 +225,6 @@ fn answered(alloc: Global, load: Load, count: u32, first: Seq48) -> u32 {
         Load::EndAcks => at_end(alloc, &REQUEST, &ACK, count, first),
         Load::EndRefusals => at_end(alloc, &ACK, &ACK, count, first),
         Load::Frames => nowhere(count),
-    }
-}
-
-/// This many datagrams come. Prints how many were answered, so that none is left out.
-pub(crate) fn all(rt: &HostRuntime, load: Load, count: u32) -> io::Result<()> {
-    let first = zero().add(2_000);
-    let answered = answered(rt.alloc(), load, count, first);
+    };
     eprintln!(rt; "{answered}")
 }

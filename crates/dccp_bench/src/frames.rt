@@ -4,7 +4,6 @@ use dccp_options::OptWriter;
 use dccp_packets::{Frame, Header, Kind, Number, encode};
 use dccp_sum::{Pseudo, seal};
 use seq_circle::Seq48;
-use std::alloc::Global;
 
 // From the client to the server, as the full frame travels.
 pub(crate) const PSEUDO: Pseudo = Pseudo::V4 {
@@ -12,48 +11,38 @@ pub(crate) const PSEUDO: Pseudo = Pseudo::V4 {
     to: [10, 0, 0, 2],
 };
 
-// Frames of a connection with Ack Vectors and data, of both ends: the sum is the same in both directions.
-const WORKED: [&str; 7] = [
-    "9c401389080000b601000000000003e80000002a012004040101220406010000",
-    "13899c400d00a1c303000000000007d000000000000003e80000002a230604010100210606010100012004040101220406010000",
-    "9c4013890a00eadd07000000000003e900000000000007d026030023060401010021060601010000",
-    "13899c400700fb3807000000000007d100000000000003e926030100",
-    "9c4013890700503609000000000003ea00000000000007d126030000aa",
-    "13899c400800fa6e07000000000007d200000000000003ec260500c000000000",
-    "13899c400700fc3207000000000007d300000000000003ed26030000",
+/// Frames of a connection with Ack Vectors and data, of both ends: the sum is the same in both directions.
+pub(crate) const WORKED: [&[u8]; 7] = [
+    &[
+        0x9c, 0x40, 0x13, 0x89, 8, 0, 0, 0xb6, 1, 0, 0, 0, 0, 0, 3, 0xe8, 0, 0, 0, 0x2a, 1, 0x20,
+        4, 4, 1, 1, 0x22, 4, 6, 1, 0, 0,
+    ],
+    &[
+        0x13, 0x89, 0x9c, 0x40, 0x0d, 0, 0xa1, 0xc3, 3, 0, 0, 0, 0, 0, 7, 0xd0, 0, 0, 0, 0, 0, 0,
+        3, 0xe8, 0, 0, 0, 0x2a, 0x23, 6, 4, 1, 1, 0, 0x21, 6, 6, 1, 1, 0, 1, 0x20, 4, 4, 1, 1,
+        0x22, 4, 6, 1, 0, 0,
+    ],
+    &[
+        0x9c, 0x40, 0x13, 0x89, 0x0a, 0, 0xea, 0xdd, 7, 0, 0, 0, 0, 0, 3, 0xe9, 0, 0, 0, 0, 0, 0,
+        7, 0xd0, 0x26, 3, 0, 0x23, 6, 4, 1, 1, 0, 0x21, 6, 6, 1, 1, 0, 0,
+    ],
+    &[
+        0x13, 0x89, 0x9c, 0x40, 7, 0, 0xfb, 0x38, 7, 0, 0, 0, 0, 0, 7, 0xd1, 0, 0, 0, 0, 0, 0, 3,
+        0xe9, 0x26, 3, 1, 0,
+    ],
+    &[
+        0x9c, 0x40, 0x13, 0x89, 7, 0, 0x50, 0x36, 9, 0, 0, 0, 0, 0, 3, 0xea, 0, 0, 0, 0, 0, 0, 7,
+        0xd1, 0x26, 3, 0, 0, 0xaa,
+    ],
+    &[
+        0x13, 0x89, 0x9c, 0x40, 8, 0, 0xfa, 0x6e, 7, 0, 0, 0, 0, 0, 7, 0xd2, 0, 0, 0, 0, 0, 0, 3,
+        0xec, 0x26, 5, 0, 0xc0, 0, 0, 0, 0,
+    ],
+    &[
+        0x13, 0x89, 0x9c, 0x40, 7, 0, 0xfc, 0x32, 7, 0, 0, 0, 0, 0, 7, 0xd3, 0, 0, 0, 0, 0, 0, 3,
+        0xed, 0x26, 3, 0, 0,
+    ],
 ];
-
-/// The worked frames. None if no memory was left.
-pub(crate) fn worked(alloc: Global) -> Option<Vec<Vec<u8>>> {
-    let mut frames = Vec::new(alloc);
-    if add_worked(alloc, &mut frames) {
-        Some(frames)
-    } else {
-        None
-    }
-}
-
-fn add_worked(alloc: Global, frames: &mut Vec<Vec<u8>>) -> bool {
-    for text in &WORKED {
-        if !add_decoded(alloc, text, frames) {
-            return false;
-        }
-    }
-    true
-}
-
-fn add_decoded(alloc: Global, text: &str, frames: &mut Vec<Vec<u8>>) -> bool {
-    match hex::decode(alloc, text) {
-        Ok(frame) => frames.push(frame).is_ok(),
-        Err(_) => false,
-    }
-}
-
-// Puts a frame after the others. False if no memory was left.
-fn add(alloc: Global, frame: &Frame, frames: &mut Vec<Vec<u8>>) -> bool {
-    let mut bytes = Vec::new(alloc);
-    bytes.extend_from_slice(frame.bytes()).is_ok() && frames.push(bytes).is_ok()
-}
 
 // Ack Vectors that fill an area after the fixed part of a DataAck.
 fn full_options() -> OptWriter {
@@ -66,8 +55,8 @@ fn full_options() -> OptWriter {
     writer
 }
 
-// A frame of 2,044 bytes: full options and full data.
-fn full_frame() -> Frame {
+/// A frame of 2,044 bytes: full options and full data.
+pub(crate) fn full_frame() -> Frame {
     let Some(number) = Seq48::new(1000) else {
         unreachable!()
     };
@@ -88,14 +77,4 @@ fn full_frame() -> Frame {
         let _ = seal(&PSEUDO, frame.bytes_mut());
     }
     frame
-}
-
-/// The frame of 2,044 bytes, alone. None if no memory was left.
-pub(crate) fn full(alloc: Global) -> Option<Vec<Vec<u8>>> {
-    let mut frames = Vec::new(alloc);
-    if add(alloc, &full_frame(), &mut frames) {
-        Some(frames)
-    } else {
-        None
-    }
 }

@@ -65,22 +65,22 @@ fn turns(inbox: &mut Inbox, rounds: u32) -> u64 {
 }
 
 // Times the report of this many drops.
-fn report(rt: &HostRuntime, inbox: &Inbox, drops: u32, rounds: u32) -> io::Result<()> {
-    let start = Instant::now(rt)?;
-    let sum = writes(inbox, rounds);
-    ended(rt, ("report", drops), start, u64::from(rounds), sum)
-}
-
 fn measure_report(rt: &HostRuntime, drops: u32, rounds: u32) -> io::Result<()> {
     let mut inbox = filled(rt.alloc(), 1)?;
     drop_evenly(&mut inbox, drops);
-    report(rt, &inbox, drops, rounds)
+    let start = Instant::now(rt)?;
+    let sum = writes(&inbox, rounds);
+    ended(rt, ("report", drops), start, u64::from(rounds), sum)
 }
 
 // Times what comes and goes in a full inbox of this capacity.
-fn turn(rt: &HostRuntime, inbox: &mut Inbox, capacity: u16, rounds: u32) -> io::Result<()> {
+fn measure_turn(rt: &HostRuntime, capacity: u16, rounds: u32) -> io::Result<()>
+    requires some { 1 ≤ capacity }
+    requires few { capacity ≤ 1024 }
+{
+    let mut inbox = filled(rt.alloc(), capacity)?;
     let start = Instant::now(rt)?;
-    let sum = turns(inbox, rounds);
+    let sum = turns(&mut inbox, rounds);
     ended(
         rt,
         ("turn", u32::from(capacity)),
@@ -88,14 +88,6 @@ fn turn(rt: &HostRuntime, inbox: &mut Inbox, capacity: u16, rounds: u32) -> io::
         u64::from(rounds),
         sum,
     )
-}
-
-fn measure_turn(rt: &HostRuntime, capacity: u16, rounds: u32) -> io::Result<()>
-    requires some { 1 ≤ capacity }
-    requires few { capacity ≤ 1024 }
-{
-    let mut inbox = filled(rt.alloc(), capacity)?;
-    turn(rt, &mut inbox, capacity, rounds)
 }
 
 /// Prints the nanoseconds of this many calls of each.

@@ -86,7 +86,9 @@ fn asked(rt: &HostRuntime) -> io::Result<Task> {
         form: Form::Packets,
         rounds: 1,
     };
-    for word in env::args(rt)?.skip(1) {
+    let mut words = env::args(rt)?;
+    let _program = words.next();
+    for word in words {
         task.hear(&word);
     }
     Ok(task)

@@ -79,27 +79,14 @@ fn sends<C: Congestion>(control: &mut C, ccid: u8, rounds: u32) -> u64 {
     sum
 }
 
-fn marked(alloc: Global, rounds: u32) -> Result<u64, NoMemory> {
-    let mut received = Received::new(alloc)?;
-    Ok(marks(&mut received, rounds))
-}
-
-fn sent_by_two(alloc: Global, rounds: u32) -> Result<u64, NoMemory> {
-    let mut control = Ccid2::new(alloc)?;
-    Ok(sends(&mut control, 2, rounds))
-}
-
-fn sent_by_fixed(alloc: Global, rounds: u32) -> Result<u64, NoMemory> {
-    let mut control = FixedWindow::new(alloc)?;
-    Ok(sends(&mut control, 248, rounds))
-}
-
 // This many rounds of each call.
 fn rounds_of_each(alloc: Global, rounds: u32) -> Result<u64, NoMemory> {
-    let marked = marked(alloc, rounds)?;
-    let two = sent_by_two(alloc, rounds)?;
-    let fixed = sent_by_fixed(alloc, rounds)?;
-    Ok(marked.wrapping_add(two).wrapping_add(fixed))
+    let mut received = Received::new(alloc)?;
+    let mut two = Ccid2::new(alloc)?;
+    let mut fixed = FixedWindow::new(alloc)?;
+    let marked = marks(&mut received, rounds);
+    let sent = sends(&mut two, 2, rounds).wrapping_add(sends(&mut fixed, 248, rounds));
+    Ok(marked.wrapping_add(sent))
 }
 
 /// Prints the sum of what every call answered, over this many rounds of each.

@@ -15,10 +15,6 @@ fn nonce_of(number: Seq48) -> bool {
     number.get() % 2 == 1
 }
 
-fn unmarked(number: Seq48) -> Arrived {
-    Arrived::Nonce(nonce_of(number))
-}
-
 // The window is filled this many times, in order.
 fn fills(received: &mut EcnReceived, rounds: u32) -> u64 {
     let mut sum = 0u64;
@@ -26,7 +22,7 @@ fn fills(received: &mut EcnReceived, rounds: u32) -> u64 {
         received.start(zero());
         let mut number = zero();
         for _ in 0..WINDOW {
-            if received.took(number, unmarked(number)) == Marked::New {
+            if received.took(number, Arrived::Nonce(nonce_of(number))) == Marked::New {
                 sum = sum.wrapping_add(1);
             }
             number = number.next();
@@ -40,7 +36,7 @@ fn take_every_second(received: &mut EcnReceived, runs: u32) {
     received.start(zero());
     let mut number = zero().next();
     for _ in 0..runs {
-        let _ = received.took(number, unmarked(number));
+        let _ = received.took(number, Arrived::Nonce(nonce_of(number)));
         number = number.add(2);
     }
 }

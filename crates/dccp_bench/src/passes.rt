@@ -1,7 +1,7 @@
 //! What is done with each frame, over frames of worked runs and over a full frame.
 
-use crate::figures::{no_memory, since, told_of};
-use crate::frames::{PSEUDO, full, worked};
+use crate::figures::{since, told_of};
+use crate::frames::{PSEUDO, WORKED, full_frame};
 use dccp_options::options;
 use dccp_packets::decode;
 use dccp_sum::check;
@@ -23,28 +23,16 @@ enum Pass {
     All,
 }
 
-const PASSES: [Pass; 5] = [
-    Pass::Plain,
-    Pass::Decode,
-    Pass::Options,
-    Pass::Check,
-    Pass::All,
+// Each with its name in the figures.
+const PASSES: [(&str, Pass); 5] = [
+    ("plain", Pass::Plain),
+    ("decode", Pass::Decode),
+    ("decode+options", Pass::Options),
+    ("check", Pass::Check),
+    ("decode+options+check", Pass::All),
 ];
 
 const MOST_OPTIONS: usize = 1008;
-
-impl Pass {
-    // Its name in the figures.
-    fn name(self) -> &'static str {
-        match self {
-            Pass::Plain => "plain",
-            Pass::Decode => "decode",
-            Pass::Options => "decode+options",
-            Pass::Check => "check",
-            Pass::All => "decode+options+check",
-        }
-    }
-}
 
 fn plain(frame: &[u8]) -> u64 {
     let mut sum = 0u64;
@@ -96,7 +84,7 @@ fn one(pass: Pass, frame: &[u8]) -> u64 {
 }
 
 // Does it with each frame; the sum goes from round to round, so that no round can be left out.
-fn over(pass: Pass, frames: &[Vec<u8>], sum: u64) -> u64 {
+fn over(pass: Pass, frames: &[&[u8]], sum: u64) -> u64 {
     let mut sum = sum;
     for frame in frames {
         sum = sum.wrapping_add(one(pass, frame));
@@ -107,9 +95,9 @@ fn over(pass: Pass, frames: &[Vec<u8>], sum: u64) -> u64 {
 // Prints a pass and its frames, the nanoseconds and packets of all rounds, and the sum, so that none is left out.
 fn measure(
     rt: &HostRuntime,
+    call: (&str, &str),
     pass: Pass,
-    name: &str,
-    frames: &[Vec<u8>],
+    frames: &[&[u8]],
     rounds: u32,
 ) -> io::Result<()> {
     let start = Instant::now(rt)?;
@@ -118,30 +106,18 @@ fn measure(
         sum = over(pass, frames, sum);
     }
     let packets = u64::from(rounds).saturating_mul(frames.len() as u64);
-    told_of(rt, (pass.name(), name), since(rt, start)?, packets, sum)
+    told_of(rt, call, since(rt, start)?, packets, sum)
 }
 
-fn measure_each(rt: &HostRuntime, name: &str, frames: &[Vec<u8>], rounds: u32) -> io::Result<()> {
-    for pass in &PASSES {
-        measure(rt, *pass, name, frames, rounds)?;
+fn measure_each(rt: &HostRuntime, name: &str, frames: &[&[u8]], rounds: u32) -> io::Result<()> {
+    for (what, pass) in &PASSES {
+        measure(rt, (what, name), *pass, frames, rounds)?;
     }
     Ok(())
 }
 
 /// Reads packets this many times, in each pass.
 pub(crate) fn all(rt: &HostRuntime, rounds: u32) -> io::Result<()> {
-    measure_all(rt, "worked", worked(rt.alloc()), rounds)?;
-    measure_all(rt, "full", full(rt.alloc()), rounds)
-}
-
-fn measure_all(
-    rt: &HostRuntime,
-    name: &str,
-    frames: Option<Vec<Vec<u8>>>,
-    rounds: u32,
-) -> io::Result<()> {
-    match frames {
-        Some(frames) => measure_each(rt, name, &frames, rounds),
-        None => Err(no_memory()),
-    }
+    measure_each(rt, "worked", &WORKED, rounds)?;
+    measure_each(rt, "full", &[full_frame().bytes()], rounds)
 }

@@ -227,16 +227,6 @@ fn measure(rt: &HostRuntime, runs: u32, rounds: u32) -> io::Result<()> {
     news(rt, runs, &out, rounds)
 }
 
-// Takes the report that a set's vector makes, and gives how many packets it acknowledged.
-fn take_report(flight: &mut Flight, received: &Received, ack: Seq48) -> Option<u32> {
-    let mut out = VectorBytes::new();
-    let _ = received.write(&mut out, ack, Vectors::One);
-    let mut writer = OptWriter::new();
-    let _ = writer.put(false, 38, &out);
-    let report = AckReport::of(ack, options(writer.bytes(), false))?;
-    Some(flight.report(&report, None).acked)
-}
-
 // A list whose second entry was lost and whose others are all Reported takes a small vector this many times.
 fn time_old_loss(
     rt: &HostRuntime,
@@ -253,11 +243,16 @@ fn time_old_loss(
     ended(rt, ("old-loss", runs), start, u64::from(rounds), sum)
 }
 
-// Makes such a list; gives how many packets that acknowledged.
+// Makes such a list by a report; gives how many packets that acknowledged.
 fn lose_one(flight: &mut Flight, received: &mut Received, runs: u32) -> Option<u32> {
     send_all(flight, runs);
     take_all_but_one(received, runs);
-    take_report(flight, received, newest(runs))
+    let mut out = VectorBytes::new();
+    let _ = received.write(&mut out, newest(runs), Vectors::One);
+    let mut writer = OptWriter::new();
+    let _ = writer.put(false, 38, &out);
+    let report = AckReport::of(newest(runs), options(writer.bytes(), false))?;
+    Some(flight.report(&report, None).acked)
 }
 
 // Prints the nanoseconds of this many reports to such a list.
@@ -278,12 +273,8 @@ fn measure_after_a_loss(rt: &HostRuntime, runs: u32, rounds: u32) -> io::Result<
 pub(crate) fn all(rt: &HostRuntime, rounds: u32) -> io::Result<()> {
     time_marks(rt, rounds / 64)?;
     for runs in &SIZES {
-        measure_both(rt, *runs, rounds)?;
+        measure(rt, *runs, rounds)?;
+        measure_after_a_loss(rt, *runs, rounds)?;
     }
     Ok(())
-}
-
-fn measure_both(rt: &HostRuntime, runs: u32, rounds: u32) -> io::Result<()> {
-    measure(rt, runs, rounds)?;
-    measure_after_a_loss(rt, runs, rounds)
 }
