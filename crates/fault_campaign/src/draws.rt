@@ -156,7 +156,7 @@ pub(crate) fn ending(which: u32) -> Event
     }
 }
 
-/// The event of two words, if the client and the server have sent these numbers of frames. `OngoingRun::play_drawn`
+/// The event of two words, if the client and the server have sent these numbers of frames. `EventKit::drawn`
 /// follows the same definition, and does not call this, since an event would move there with its room for data.
 #[tactic(auto, unfolding(crate::specs::Draws::drawn))]
 pub(crate) fn drawn(a: u32, b: u32, clients: u64, servers: u64) -> Event

@@ -100,7 +100,8 @@ impl OngoingRun {
         ensures { OnOk result (self.new ≡ goes_on self.old) }
     {
         let (a, b) = self.next_words();
-        self.play_drawn(again, a, b)
+        let (clients, servers) = (self.frames(Side::Client), self.frames(Side::Server));
+        self.play(again.drawn(a, b, clients, servers))
     }
 
     // Plays `more` further events.
@@ -112,81 +113,6 @@ impl OngoingRun {
             self.go_on(again)?;
         }
         Ok(())
-    }
-
-    // Plays the event of two words. The event is changed in place, since it would move with its room for data.
-    #[tactic(auto, unfolding(crate::specs::Draws::drawn))]
-    fn play_drawn(&mut self, again: &mut EventKit, a: u32, b: u32) -> Result<(), NoMemory>
-        requires { size self.old.report < 2 ^ 62 }
-        ensures { OnOk result (self.new ≡ played self.old (drawn a b (frames_of self.old Side.Client) (frames_of self.old Side.Server))) }
-    {
-        match a % 32 {
-            0..=11 => self.deliver(again, Side::Client, b),
-            12..=23 => self.deliver(again, Side::Server, b),
-            24 => self.send(again, Side::Client, b),
-            25 => self.send(again, Side::Server, b),
-            26 => self.prefer(again, Side::Client, b % 8, b / 8),
-            27 => self.prefer(again, Side::Server, b % 8, b / 8),
-            28 => self.fire(again, Side::Client, drawn_timer(b % 6)),
-            29 => self.fire(again, Side::Server, drawn_timer(b % 6)),
-            30 => self.end(again, b % 512),
-            _ => self.fire(again, Side::Server, Timer::Negotiate),
-        }
-    }
-
-    // A frame of this side arrives; if there is none, the client's timer runs out.
-    fn deliver(&mut self, again: &mut EventKit, from: Side, b: u32) -> Result<(), NoMemory>
-        requires { size self.old.report < 2 ^ 62 }
-        ensures { OnOk result (self.new ≡ played self.old (drawn_delivery from (frames_of self.old from) b)) }
-    {
-        let frames = self.frames(from);
-        if frames == 0 {
-            return self.fire(again, Side::Client, Timer::Request);
-        }
-        let index = drawn_index(u64::from(b), frames);
-        again.delivery.become_delivery(from, index);
-        self.play(&again.delivery)
-    }
-
-    fn send(&mut self, again: &mut EventKit, side: Side, b: u32) -> Result<(), NoMemory>
-        requires { size self.old.report < 2 ^ 62 }
-        ensures { OnOk result (self.new ≡ played self.old (sending side b)) }
-    {
-        become_sending(&mut again.sending, side, b);
-        self.play(&again.sending)
-    }
-
-    fn prefer(
-        &mut self,
-        again: &mut EventKit,
-        side: Side,
-        which: u32,
-        rest: u32,
-    ) -> Result<(), NoMemory>
-        requires { size self.old.report < 2 ^ 62 }
-        ensures { OnOk result (self.new ≡ played self.old (preference side which rest)) }
-    {
-        become_preference(&mut again.preference, side, which, rest);
-        self.play(&again.preference)
-    }
-
-    fn fire(&mut self, again: &mut EventKit, side: Side, timer: Timer) -> Result<(), NoMemory>
-        requires { size self.old.report < 2 ^ 62 }
-        ensures { OnOk result (self.new ≡ played self.old (Event.Timer side timer)) }
-    {
-        again.timer.become_timer(side, timer);
-        self.play(&again.timer)
-    }
-
-    // The connection ends seldom, so the event for that is not kept.
-    fn end(&mut self, again: &mut EventKit, which: u32) -> Result<(), NoMemory>
-        requires { size self.old.report < 2 ^ 62 }
-        ensures { OnOk result (self.new ≡ played self.old (ending which)) }
-    {
-        match which {
-            0..=3 => self.play(&ending(which)),
-            _ => self.fire(again, Side::Client, Timer::Negotiate),
-        }
     }
 
     // All events of a run that has just begun.
@@ -215,7 +141,7 @@ impl OngoingRun {
     }
 }
 
-// An event of each kind, which is played again and again with other parts, in one run after another. An event is large,
+// An event of each kind, which is drawn again and again with other parts, in one run after another. An event is large,
 // since it has room for data, and a new one would clear that room.
 #[derive(Drop)]
 pub(crate) struct EventKit {
@@ -223,6 +149,7 @@ pub(crate) struct EventKit {
     timer: Event,
     sending: Event,
     preference: Event,
+    ending: Event,
 }
 
 impl EventKit {
@@ -232,6 +159,73 @@ impl EventKit {
             timer: Event::Open,
             sending: Event::Open,
             preference: Event::Open,
+            ending: Event::Open,
+        }
+    }
+
+    // The event of two words, if the client and the server have sent these numbers of frames. It is changed in place,
+    // since it would move with its room for data.
+    #[tactic(auto, unfolding(crate::specs::Draws::drawn))]
+    fn drawn(&mut self, a: u32, b: u32, clients: u64, servers: u64) -> &Event
+        ensures { result.now ≡ drawn a b clients servers }
+    {
+        match a % 32 {
+            0..=11 => self.delivery(Side::Client, clients, b),
+            12..=23 => self.delivery(Side::Server, servers, b),
+            24 => self.sending(Side::Client, b),
+            25 => self.sending(Side::Server, b),
+            26 => self.preference(Side::Client, b % 8, b / 8),
+            27 => self.preference(Side::Server, b % 8, b / 8),
+            28 => self.timer(Side::Client, drawn_timer(b % 6)),
+            29 => self.timer(Side::Server, drawn_timer(b % 6)),
+            30 => self.ending(b % 512),
+            _ => self.timer(Side::Server, Timer::Negotiate),
+        }
+    }
+
+    // A frame of this side arrives; if there is none, the client's timer runs out.
+    fn delivery(&mut self, from: Side, frames: u64, b: u32) -> &Event
+        ensures { result.now ≡ drawn_delivery from frames b }
+    {
+        if frames == 0 {
+            return self.timer(Side::Client, Timer::Request);
+        }
+        self.delivery
+            .become_delivery(from, drawn_index(u64::from(b), frames));
+        &self.delivery
+    }
+
+    fn sending(&mut self, side: Side, b: u32) -> &Event
+        ensures { result.now ≡ sending side b }
+    {
+        become_sending(&mut self.sending, side, b);
+        &self.sending
+    }
+
+    fn preference(&mut self, side: Side, which: u32, rest: u32) -> &Event
+        ensures { result.now ≡ preference side which rest }
+    {
+        become_preference(&mut self.preference, side, which, rest);
+        &self.preference
+    }
+
+    fn timer(&mut self, side: Side, timer: Timer) -> &Event
+        ensures { result.now ≡ Event.Timer side timer }
+    {
+        self.timer.become_timer(side, timer);
+        &self.timer
+    }
+
+    // The connection ends seldom, and then the event is made anew.
+    fn ending(&mut self, which: u32) -> &Event
+        ensures { result.now ≡ ending which }
+    {
+        match which {
+            0..=3 => {
+                self.ending = ending(which);
+                &self.ending
+            }
+            _ => self.timer(Side::Client, Timer::Negotiate),
         }
     }
 }
