@@ -11,41 +11,16 @@ use seq_circle::NoMemory;
 use std::alloc::{AllocError, Global};
 use tool_text::is_text;
 
-// An option that has one value.
-fn option<'a>(alloc: Global, name: &'a str) -> Arg<'a>
-    ensures rule { rule_of result ≡ rule_by Way.Chosen name.entry.now }
-    ensures local { result.global ≡ false }
-{
-    Arg::new(alloc, name).long(name).action(ArgAction::Set)
-}
-
-// An option that has one value and has to be given.
-fn needed_option<'a>(alloc: Global, name: &'a str) -> Arg<'a>
-    ensures rule { rule_of result ≡ rule_by Way.Needed name.entry.now }
-    ensures local { result.global ≡ false }
-{
-    Arg::new(alloc, name)
-        .long(name)
-        .required(true)
-        .action(ArgAction::Set)
-}
-
-fn flag<'a>(alloc: Global, name: &'a str) -> Arg<'a>
-    ensures rule { rule_of result ≡ rule_by Way.Mark name.entry.now }
-    ensures local { result.global ≡ false }
-{
-    Arg::new(alloc, name).long(name).action(ArgAction::SetTrue)
-}
-
 // The argument with this name, given in this way.
 fn argument<'a>(alloc: Global, way: Way, name: &'a str) -> Arg<'a>
     ensures rule { rule_of result ≡ rule_by way name.entry.now }
     ensures local { result.global ≡ false }
 {
+    let named = Arg::new(alloc, name).long(name);
     match way {
-        Way::Needed => needed_option(alloc, name),
-        Way::Chosen => option(alloc, name),
-        Way::Mark => flag(alloc, name),
+        Way::Needed => named.required(true).action(ArgAction::Set),
+        Way::Chosen => named.action(ArgAction::Set),
+        Way::Mark => named.action(ArgAction::SetTrue),
     }
 }
 
