@@ -1,8 +1,9 @@
 -- The chart of one end: a column for each event, with the window and what is in flight (own).
-use Rattle.std.specs.Prelude.{ℕ, ◌+◌, nat_lt, max, if◌then◌else◌, List, [], ◌++◌, codes, decimal}
-use Rattle.bridge_pictures.specs.Bars.{bar, downward, group_end, packets_high, upward}
+use Rattle.std.specs.Prelude.{ℕ, ◌+◌, nat_lt, max, if◌then◌else◌, List, [], ◌∷◌, ◌++◌, codes, decimal}
+use Rattle.std.specs.List.{concat}
+use Rattle.bridge_pictures.specs.Bars.{bar, downward, packets_high, upward}
 use Rattle.bridge_pictures.specs.Places.{point}
-use Rattle.bridge_pictures.specs.Svg.{cut_text, line, words}
+use Rattle.bridge_pictures.specs.Svg.{cut_mark, label_front, line, words}
 use Rattle.bridge_pictures.specs.declared.windows.chart.Counts.{Counts}
 use Rattle.bridge_pictures.specs.declared.windows.chart.Span.{Span}
 
@@ -19,7 +20,7 @@ first_chart = record { shown = 0; tallest = 0; body = [] }
 -- what a column shows: what happened, the window, and what is in flight
 unfoldable pub column_words : List ℕ → Counts → List ℕ
 column_words happened counts =
-    cut_text happened ++ codes "\nwindow " ++ decimal counts.window ++ codes " flight " ++ decimal counts.flight
+    concat (label_front happened ∷ cut_mark happened ∷ codes "\nwindow " ∷ decimal counts.window ∷ codes " flight " ∷ decimal counts.flight ∷ [])
 
 -- a column's mark if the window is smaller than the one that was drawn last
 abbrev pub fall : ChartParts → ℕ → Counts → List ℕ → List ℕ
@@ -47,13 +48,9 @@ column_drawn c column counts happened =
 abbrev pub chart_high : ChartParts → ℕ
 chart_high c = packets_high c.tallest + 14
 
--- how many packets the tallest bar has
-unfoldable pub tallest_words : ℕ → List ℕ
-tallest_words tallest = codes ": packets of data, up to " ++ decimal tallest
-
 -- what the chart is called, and how many packets its tallest bar has
 unfoldable pub panel_words : List ℕ → ℕ → List ℕ
-panel_words title tallest = title ++ tallest_words tallest
+panel_words title tallest = concat (title ∷ codes ": packets of data, up to " ∷ decimal tallest ∷ [])
 
 -- these words, above the chart
 unfoldable pub panel : ChartParts → List ℕ → ℕ → List ℕ
@@ -65,7 +62,7 @@ base bottom right = line (codes "base") (point 40 bottom) (point right bottom) (
 
 -- the bars, and below their line these marks
 unfoldable pub chart_body : ChartParts → ℕ → List ℕ → List ℕ
-chart_body c bottom marks = upward bottom ++ c.body ++ group_end ++ downward bottom ++ marks ++ group_end
+chart_body c bottom marks = upward bottom c.body ++ downward bottom marks
 
 -- The chart with its name and its marks.
 unfoldable pub chart : ChartParts → List ℕ → Span → List ℕ → List ℕ

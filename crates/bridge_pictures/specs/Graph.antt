@@ -1,6 +1,6 @@
 -- The graph: a chart for each end over the same columns, and below them the values of features (own).
 use Rattle.std.specs.Prelude.{ℕ, ◌+◌, ◌*◌, ◌%◌, ◌==◌, nat_lt, max, if◌then◌else◌, List, [], ◌++◌, codes, decimal}
-use Rattle.bridge_pictures.specs.Bars.{column_at, downward, group_end}
+use Rattle.bridge_pictures.specs.Bars.{column_at, downward}
 use Rattle.bridge_pictures.specs.Chart.{ChartParts, chart, chart_high, column_drawn, first_chart}
 use Rattle.bridge_pictures.specs.Look.{look}
 use Rattle.bridge_pictures.specs.Places.{point}
@@ -91,12 +91,12 @@ server_chart g marks = chart g.server (codes "server") (server_span g) marks
 
 -- what is below both charts: the numbers of columns
 unfoldable pub columns_numbered : GraphParts → List ℕ
-columns_numbered g = downward (server_bottom g + 26) ++ g.axis ++ group_end
+columns_numbered g = downward (server_bottom g + 26) g.axis
 
 -- and below these the notes, under their heading
 unfoldable pub notes_told : GraphParts → List ℕ → List ℕ
 notes_told g heading =
-    words (codes "panel") (point 40 (server_bottom g + 60)) heading ++ downward (server_bottom g + 82) ++ g.told ++ group_end
+    words (codes "panel") (point 40 (server_bottom g + 60)) heading ++ downward (server_bottom g + 82) g.told
 
 -- The picture: both charts with these marks below their lines, and below them notes under this heading.
 unfoldable pub graph_picture : GraphParts → List ℕ → List ℕ → List ℕ → List ℕ

@@ -1,5 +1,6 @@
 -- What a record of a capture says, as words of a picture (own).
 use Rattle.std.specs.Prelude.{ℕ, ◌+◌, ◌/◌, ◌%◌, ◌++◌, Bool, min, if◌then◌else◌, List, [], ◌∷◌, codes, decimal}
+use Rattle.std.specs.List.{concat}
 use Rattle.capture_reader.specs.Records.{RecordParts}
 use Rattle.dccp_packets.specs.Grammar.{Parts}
 use Rattle.packet_show.specs.Lines.{words_text}
@@ -13,8 +14,8 @@ abbrev pub three_digits : ℕ → List ℕ
 three_digits number = (48 + number / 100) ∷ (48 + number / 10 % 10) ∷ (48 + number % 10) ∷ []
 
 -- a record's number and its time, down to milliseconds
-abbrev pub stamp : RecordParts → List ℕ
-stamp e = decimal e.number ++ codes " " ++ decimal e.seconds ++ codes "." ++ three_digits (milliseconds e.nanos e.fraction)
+unfoldable pub stamp : RecordParts → List ℕ
+stamp e = concat (decimal e.number ∷ codes " " ∷ decimal e.seconds ∷ codes "." ∷ three_digits (milliseconds e.nanos e.fraction) ∷ [])
 
 -- a record's number and time, and what the packet in the record says
 unfoldable pub record_words : RecordParts → Parts → List ℕ

@@ -1,6 +1,6 @@
 -- What is kept of an end of a schedule while its windows are drawn (own).
 use Rattle.std.specs.Prelude.{ℕ, ◌==◌, if◌then◌else◌, List, [], ◌∷◌, ◌++◌, length, flat_map, slice_get, codes, decimal, Option, Some, None}
-use Rattle.std.specs.List.{list_any}
+use Rattle.std.specs.List.{concat, list_any}
 use Rattle.std.specs.Str.{bytes_eq}
 use Rattle.ccid_two.specs.Kinds.{Both, kinds_control}
 use Rattle.dccp_endpoint.specs.Controlled.{End, window_of, in_flight_of}
@@ -31,7 +31,7 @@ counts_of end =
 
 -- the values of an end's features, under the number of a column
 unfoldable pub rows_note : ℕ → Side → List ℕ → List ℕ
-rows_note column side rows = decimal column ++ codes " " ++ side_name side ++ rows
+rows_note column side rows = concat (decimal column ∷ codes " " ∷ side_name side ∷ rows ∷ [])
 
 -- one more frame was sent, if there is one
 abbrev pub frame_noted_if : TraceParts → ℕ → Option SentFrame → TraceParts

@@ -2,12 +2,11 @@
 ghost use Rattle.std.specs.Prelude.{◌≡◌, ◌+◌, ◌≤◌, ◌^◌, ◌++◌, OnOk};
 ghost use Rattle.bridge_pictures.specs.Chart as spec;
 
-use crate::svg::{Point, put_cut, put_line, put_words};
-use crate::windows::bars::{EDGE, packets_high, put_bar, put_downward, put_group_end, put_upward};
+use crate::svg::{Point, Snippet, cut, cut_mark, put_line, put_snippets, put_words};
+use crate::windows::bars::{EDGE, packets_high, put_bar, put_downward, put_upward};
 use seq_circle::NoMemory;
 use std::alloc::Global;
 use std::marker::Model;
-use tool_text::{put, put_counted};
 
 // A chart has this much room above its tallest bar.
 const ROOM: u64 = 14;
@@ -41,26 +40,32 @@ impl Model for Chart {
 fn put_column_words(text: &mut Vec<u8>, words: &[u8], counts: Counts) -> Result<(), NoMemory>
     ensures { OnOk result (text.new.items ≡ text.old.items ++ spec.column_words words.now counts) }
 {
-    put_cut(text, words)?;
-    put_counted(text, b"\nwindow ", u64::from(counts.window))?;
-    put_counted(text, b" flight ", u64::from(counts.flight))
-}
-
-// Puts how many packets the tallest bar has.
-#[tactic(auto, unfolding(crate::specs::Chart::tallest_words))]
-fn put_tallest(text: &mut Vec<u8>, tallest: u32) -> Result<(), NoMemory>
-    ensures { OnOk result (text.new.items ≡ text.old.items ++ spec.tallest_words tallest) }
-{
-    put_counted(text, b": packets of data, up to ", u64::from(tallest))
+    put_snippets(
+        text,
+        &[
+            Snippet::Plain(cut(words)),
+            Snippet::Plain(cut_mark(words)),
+            Snippet::Plain(b"\nwindow "),
+            Snippet::Number(u64::from(counts.window)),
+            Snippet::Plain(b" flight "),
+            Snippet::Number(u64::from(counts.flight)),
+        ],
+    )
 }
 
 // Puts what a chart is called, and how many packets its tallest bar has.
 #[tactic(auto, unfolding(crate::specs::Chart::panel_words))]
-fn put_panel_words(text: &mut Vec<u8>, name: &[u8], tallest: u32) -> Result<(), NoMemory>
+fn put_panel_words(text: &mut Vec<u8>, name: &[u8], tallest: u64) -> Result<(), NoMemory>
     ensures { OnOk result (text.new.items ≡ text.old.items ++ spec.panel_words name.now tallest) }
 {
-    put(text, name)?;
-    put_tallest(text, tallest)
+    put_snippets(
+        text,
+        &[
+            Snippet::Plain(name),
+            Snippet::Plain(b": packets of data, up to "),
+            Snippet::Number(tallest),
+        ],
+    )
 }
 
 // Puts the line below the bars.
@@ -136,12 +141,8 @@ impl Chart {
     fn put_body(&self, text: &mut Vec<u8>, bottom: u64, marks: &[u8]) -> Result<(), NoMemory>
         ensures { OnOk result (text.new.items ≡ text.old.items ++ spec.chart_body self.now bottom marks.now) }
     {
-        put_upward(text, bottom)?;
-        put(text, &self.body)?;
-        put_group_end(text)?;
-        put_downward(text, bottom)?;
-        put(text, marks)?;
-        put_group_end(text)
+        put_upward(text, bottom, &self.body)?;
+        put_downward(text, bottom, marks)
     }
 
     // Puts what the chart is called.
@@ -156,7 +157,7 @@ impl Chart {
         ensures { OnOk result (text.new.items ≡ text.old.items ++ spec.panel self.now name.now top) }
     {
         let mut words = Vec::new(alloc);
-        put_panel_words(&mut words, name, self.tallest)?;
+        put_panel_words(&mut words, name, u64::from(self.tallest))?;
         put_words(text, b"panel", Point { x: EDGE, y: top }, &words)
     }
 

@@ -3,7 +3,7 @@ ghost use Rattle.std.specs.Prelude.{◌≡◌, ◌+◌, ◌≤◌, ◌^◌, ◌+
 ghost use Rattle.bridge_pictures.specs.Graph as spec;
 
 use crate::svg::{Point, put_front, put_words};
-use crate::windows::bars::{EDGE, column_at, put_downward, put_group_end};
+use crate::windows::bars::{EDGE, column_at, put_downward};
 use crate::windows::chart::{Chart, Counts, Span};
 use crate::windows::look::put_look;
 use seq_circle::NoMemory;
@@ -209,9 +209,7 @@ impl Graph {
     fn put_numbers(&self, text: &mut Vec<u8>) -> Result<(), NoMemory>
         ensures { OnOk result (text.new.items ≡ text.old.items ++ spec.columns_numbered self.now) }
     {
-        put_downward(text, self.server_bottom() + NUMBERS)?;
-        put(text, &self.axis)?;
-        put_group_end(text)
+        put_downward(text, self.server_bottom() + NUMBERS, &self.axis)
     }
 
     // Puts the notes, under their heading.
@@ -224,9 +222,7 @@ impl Graph {
             y: self.server_bottom() + HEADING,
         };
         put_words(text, b"panel", at, heading)?;
-        put_downward(text, self.server_bottom() + NOTES)?;
-        put(text, &self.told)?;
-        put_group_end(text)
+        put_downward(text, self.server_bottom() + NOTES, &self.told)
     }
 
     /// Puts the picture: both charts with these marks below their lines, and below them the notes under this heading.

@@ -2,6 +2,7 @@
 ghost use Rattle.std.specs.Prelude.{◌≡◌, ◌++◌, OnOk};
 ghost use Rattle.bridge_pictures.specs.Trace as spec;
 
+use crate::svg::{Snippet, put_snippets};
 use crate::windows::bars::put_bar;
 use crate::windows::chart::Counts;
 use crate::windows::graph::Graph;
@@ -12,7 +13,7 @@ use seq_circle::{NoMemory, Seq48};
 use std::alloc::Global;
 use std::marker::Model;
 use tool_jobs::put_end_rows;
-use tool_text::{is_text, put, put_number};
+use tool_text::is_text;
 use two_ends::{SentFrame, World};
 use world_events::Side;
 
@@ -53,10 +54,15 @@ pub(crate) fn counts_of(end: &Endpoint<Kinds>) -> Counts
 fn put_rows_note(text: &mut Vec<u8>, column: u32, side: Side, rows: &[u8]) -> Result<(), NoMemory>
     ensures { OnOk result (text.new.items ≡ text.old.items ++ spec.rows_note column side rows.now) }
 {
-    put_number(text, u64::from(column))?;
-    put(text, b" ")?;
-    put(text, side_name(side))?;
-    put(text, rows)
+    put_snippets(
+        text,
+        &[
+            Snippet::Number(u64::from(column)),
+            Snippet::Plain(b" "),
+            Snippet::Plain(side_name(side)),
+            Snippet::Plain(rows),
+        ],
+    )
 }
 
 // Puts the mark of a frame that was never processed.
