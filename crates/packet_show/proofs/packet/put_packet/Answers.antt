@@ -3,6 +3,7 @@ use Rattle.std.proofs.Common.{◌≡◌, ap, ◌∙◌, List, ℕ, ◌++◌, app
 use Rattle.capture_reader.specs.Records.{entry_of}
 use Rattle.packet_show.specs.Network.{carried_by}
 use Rattle.packet_show.specs.Lines.{stamp_text, sender_text, receiver_text, header_text, rest_text, parts_by}
+use Rattle.tool_text.proofs.Keeping.{keeps_through}
 use Rattle.packet_show.proofs.packet.put_packet.Goals as goal
 
 following : (old mid new piece more : List ℕ) → mid ≡ old ++ piece → new ≡ mid ++ more → new ≡ old ++ (piece ++ more)
@@ -23,3 +24,18 @@ returns-clause-ok c =
     c.in_ok-put_receiver.ensures.ok)
     c.in_ok-put_header.ensures.ok)
     c.in_ok-put_rest.ensures.ok
+
+pub returns-in_err-put_sender-clause-front : goal.returns-in_err-put_sender-clause-front
+returns-in_err-put_sender-clause-front c = search keeps_through
+
+pub returns-in_err-put_receiver-clause-front : goal.returns-in_err-put_receiver-clause-front
+returns-in_err-put_receiver-clause-front c = search keeps_through
+
+pub returns-in_err-put_header-clause-front : goal.returns-in_err-put_header-clause-front
+returns-in_err-put_header-clause-front c = search keeps_through
+
+pub returns-in_err-put_rest-clause-front : goal.returns-in_err-put_rest-clause-front
+returns-in_err-put_rest-clause-front c = search keeps_through
+
+pub returns-clause-front : goal.returns-clause-front
+returns-clause-front c = search keeps_through
