@@ -297,6 +297,29 @@ fn abort(words: &mut Words<'_>, said: &mut Line) -> Result<(), LineFault>
     Ok(())
 }
 
+// What the words after the first say in a line of this form.
+fn read_row(form: Form, words: &mut Words<'_>, said: &mut Line) -> Result<(), LineFault>
+    ensures value { MatchResult result
+        (λ done. (spec.rows form).said (left_of words.old) ≡ Ok said.new)
+        (λ fault. (spec.rows form).said (left_of words.old) ≡ Err fault) }
+    ensures kept { OnErr result (said.new ≡ said.old) }
+{
+    match form {
+        Form::Version => version(words, said),
+        Form::Plain => plain(words, said),
+        Form::Iss => iss(words, said),
+        Form::Set => set(words, said),
+        Form::Offer => offer(words, said),
+        Form::Open => open(words, said),
+        Form::Deliver => deliver(words, said),
+        Form::Send => send(words, said),
+        Form::Prefer => prefer(words, said),
+        Form::Timer => timer(words, said),
+        Form::Close => close(words, said),
+        Form::Abort => abort(words, said),
+    }
+}
+
 /// What a line of a schedule says, or the first of its faults in the order of `LineWhy`, with its column (own). The
 /// line comes without its newline.
 ///
@@ -324,18 +347,6 @@ pub fn read_line_into(line: &[u8], said: &mut Line) -> Result<(), LineFault>
         return Ok(());
     }
     let mut words = Words::of(line);
-    match read_word::<FormWord>(words.next_word())? {
-        Form::Version => version(&mut words, said),
-        Form::Plain => plain(&mut words, said),
-        Form::Iss => iss(&mut words, said),
-        Form::Set => set(&mut words, said),
-        Form::Offer => offer(&mut words, said),
-        Form::Open => open(&mut words, said),
-        Form::Deliver => deliver(&mut words, said),
-        Form::Send => send(&mut words, said),
-        Form::Prefer => prefer(&mut words, said),
-        Form::Timer => timer(&mut words, said),
-        Form::Close => close(&mut words, said),
-        Form::Abort => abort(&mut words, said),
-    }
+    let form = read_word::<FormWord>(words.next_word())?;
+    read_row(form, &mut words, said)
 }
