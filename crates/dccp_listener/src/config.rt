@@ -10,7 +10,7 @@ use dccp_endpoint::{Config, Lists, Pseudo, Role, Seq48, Vectors};
 use dccp_packets::{Kind, Packet};
 
 /// The configuration of a listener (own).
-#[derive(Clone, Debug, Drop)]
+#[derive(Debug, Drop)]
 pub struct ListenConfig {
     /// The IPv4 address that datagrams are sent to.
     pub own_address: [u8; 4],
