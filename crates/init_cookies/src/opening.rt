@@ -16,7 +16,7 @@ use std::marker::Model;
 pub const MOST_REQUEST_OPTIONS: usize = 220;
 
 /// What a Request asked for, when it was answered, and under which first number: all that opens its connection later.
-#[derive(Clone, Debug, Drop)]
+#[derive(Drop)]
 pub struct FirstRequest {
     time: u64,
     iss: Seq48,
