@@ -4,11 +4,13 @@ ghost use Rattle.dccp_listener.specs.Standing.{IsListening};
 
 use arrayvec::ArrayVec;
 use ccid_two::Kinds;
-use dccp_endpoint::{Config, DecodedDatagram, Endpoint, Frame, Lists, Outbox, Phase, Role, Seq48};
+use dccp_endpoint::{
+    Config, DecodedDatagram, Endpoint, Frame, Lists, NoMemory, Outbox, Phase, Role, Seq48,
+};
 use dccp_listener::{ListenConfig, Peer};
 use dccp_options::options;
 use dccp_packets::decode;
-use dccp_server::{CookieUse, EventKind, EventServer, FlowEvent, Rules, Server, Way};
+use dccp_server::{CookieUse, EventKind, EventServer, Rules, Server, Way};
 use dccp_uses::Pace;
 use init_cookies::{CookieOption, append_options, one_cookie};
 use std::alloc::Global;
@@ -35,8 +37,17 @@ fn config() -> Option<ListenConfig>
     })
 }
 
-fn server(alloc: Global, cookies: CookieUse) -> Option<Server> {
-    let mut server = Server::new(alloc, config()?, Pace::usual(), Rules::usual());
+// Puts a value into a box: a proof follows every field of what a function owns through each of its steps.
+fn boxed<T: Drop>(alloc: Global, value: T) -> Result<Box<T>, NoMemory> {
+    match Box::new(alloc, value) {
+        Ok(value) => Ok(value),
+        Err(_) => Err(NoMemory),
+    }
+}
+
+fn server(alloc: Global, cookies: CookieUse) -> Option<Box<Server>> {
+    let server = Server::new(alloc, config()?, Pace::usual(), Rules::usual());
+    let mut server = boxed(alloc, server).ok()?;
     server.set_cookies(cookies);
     server.rekey([7; 32], 0);
     Some(server)
@@ -62,19 +73,30 @@ fn is_open(server: &Server, peer: Peer) -> bool {
     }
 }
 
-// How a server meets a datagram.
-fn met(server: &mut Server, last: u8, bytes: &[u8], now: u64, out: &mut Outbox) -> Option<Way> {
+// Whether a server meets a datagram of this peer at this time so.
+fn meets(
+    server: &mut Server,
+    (last, now): (u8, u64),
+    bytes: &[u8],
+    way: Way,
+    out: &mut Outbox,
+) -> bool {
+    let Some(first) = Seq48::new(7000) else {
+        return false;
+    };
     if 2044 < bytes.len() {
-        return None;
+        return false;
     }
-    let first = Seq48::new(7000)?;
     let datagram = DecodedDatagram::new(bytes);
-    Some(server.meet(peer(last), first, &datagram, now, out).way)
+    server.meet(peer(last), first, &datagram, now, out).way == way
 }
 
-fn client(alloc: Global) -> Option<Endpoint<Kinds>> {
-    let congestion = Kinds::new(alloc).ok()?;
-    Endpoint::new(alloc, Config::usual(Role::Client), congestion).ok()
+fn client(alloc: Global) -> Result<Box<Endpoint<Kinds>>, NoMemory> {
+    let congestion = Kinds::new(alloc)?;
+    boxed(
+        alloc,
+        Endpoint::new(alloc, Config::usual(Role::Client), congestion)?,
+    )
 }
 
 fn request(client: &mut Endpoint<Kinds>, out: &mut Outbox) -> Option<Frame> {
@@ -84,10 +106,11 @@ fn request(client: &mut Endpoint<Kinds>, out: &mut Outbox) -> Option<Frame> {
 
 // The Response of a server that makes no flow for this Request.
 fn greeting(server: &mut Server, request: &[u8], out: &mut Outbox) -> Option<Frame> {
-    if met(server, 1, request, 100, out)? != Way::Greeted || server.flows() != 0 {
-        return None;
+    if meets(server, (1, 100), request, Way::Greeted, out) && server.flows() == 0 {
+        frame_in(out)
+    } else {
+        None
     }
-    frame_in(out)
 }
 
 // The client's Ack that returns the cookie of this Response.
@@ -112,33 +135,31 @@ fn exchanged(client: &mut Endpoint<Kinds>, server: &mut Server, out: &mut Outbox
 
 // A client's Ack with the cookie that this server gives.
 fn acked(alloc: Global, server: &mut Server, out: &mut Outbox) -> Option<Frame> {
-    exchanged(&mut client(alloc)?, server, out)
+    match client(alloc) {
+        Ok(mut client) => exchanged(&mut client, server, out),
+        Err(NoMemory) => None,
+    }
 }
 
 // A cookie is no use to a stranger or after its time, and the Ack opens a flow.
-fn opens_by(server: &mut Server, ack: &[u8], out: &mut Outbox) -> Option<bool> {
-    let stolen = met(server, 3, ack, 150, out)?;
-    let late = met(server, 1, ack, 120_101, out)?;
-    let opened = met(server, 1, ack, 150, out)?;
-    let heard = met(server, 1, ack, 160, out)?;
-    Some(
-        stolen == Way::Plain
-            && late == Way::Plain
-            && opened == Way::Reopened
-            && heard == Way::Plain
-            && server.flows() == 1
-            && is_open(server, peer(1)),
-    )
+fn opens_by(server: &mut Server, ack: &[u8], out: &mut Outbox) -> bool {
+    meets(server, (3, 150), ack, Way::Plain, out)
+        && meets(server, (1, 120_101), ack, Way::Plain, out)
+        && meets(server, (1, 150), ack, Way::Reopened, out)
+        && meets(server, (1, 160), ack, Way::Plain, out)
+        && server.flows() == 1
+        && is_open(server, peer(1))
 }
 
 fn opens_at(alloc: Global, server: &mut Server) -> Option<bool> {
     let mut out = Outbox::new();
     let ack = acked(alloc, server, &mut out)?;
-    opens_by(server, ack.bytes(), &mut out)
+    Some(opens_by(server, ack.bytes(), &mut out))
 }
 
 fn opens(alloc: Global) -> Option<bool> {
-    opens_at(alloc, &mut server(alloc, CookieUse::Always)?)
+    let mut server = server(alloc, CookieUse::Always)?;
+    opens_at(alloc, &mut server)
 }
 
 // A Request from port 40000 to 5001 with number 1000 and service 42, from 10.0.0.1, 10.0.0.3 and 10.0.0.4.
@@ -155,91 +176,92 @@ const REQUESTS: [[u8; 20]; 3] = [
 ];
 
 // In a table of two flows, one may be half open without a crowd: the third stranger is greeted.
-fn greets_third(server: &mut Server) -> Option<bool> {
+fn greets_third(server: &mut Server) -> bool {
     let mut out = Outbox::new();
-    let first = met(server, 1, &REQUESTS[0], 100, &mut out)?;
-    let second = met(server, 3, &REQUESTS[1], 100, &mut out)?;
-    let third = met(server, 4, &REQUESTS[2], 100, &mut out)?;
-    Some(
-        first == Way::Plain && second == Way::Plain && third == Way::Greeted && server.flows() == 2,
-    )
+    meets(server, (1, 100), &REQUESTS[0], Way::Plain, &mut out)
+        && meets(server, (3, 100), &REQUESTS[1], Way::Plain, &mut out)
+        && meets(server, (4, 100), &REQUESTS[2], Way::Greeted, &mut out)
+        && server.flows() == 2
 }
 
 fn greets_in_a_crowd(alloc: Global) -> Option<bool> {
-    greets_third(&mut server(alloc, CookieUse::InACrowd)?)
+    let mut server = server(alloc, CookieUse::InACrowd)?;
+    Some(greets_third(&mut server))
 }
 
 // An Ack with a cookie of a server of the same key.
 fn foreign_ack(alloc: Global) -> Option<Frame> {
-    acked(
-        alloc,
-        &mut server(alloc, CookieUse::Always)?,
-        &mut Outbox::new(),
-    )
+    let mut server = server(alloc, CookieUse::Always)?;
+    acked(alloc, &mut server, &mut Outbox::new())
 }
 
 // A client that returns a cookie takes the place of the flow that has been half open for longest.
-fn makes_way(server: &mut Server, ack: &[u8]) -> Option<bool> {
+fn makes_way(server: &mut Server, ack: &[u8]) -> bool {
     let mut out = Outbox::new();
-    let first = met(server, 3, &REQUESTS[1], 50, &mut out)?;
-    let second = met(server, 4, &REQUESTS[2], 60, &mut out)?;
-    let opened = met(server, 1, ack, 150, &mut out)?;
-    Some(
-        first == Way::Plain
-            && second == Way::Plain
-            && opened == Way::Reopened
-            && server.flow(peer(3)).is_none()
-            && server.flow(peer(4)).is_some()
-            && is_open(server, peer(1)),
-    )
+    meets(server, (3, 50), &REQUESTS[1], Way::Plain, &mut out)
+        && meets(server, (4, 60), &REQUESTS[2], Way::Plain, &mut out)
+        && meets(server, (1, 150), ack, Way::Reopened, &mut out)
+        && server.flow(peer(3)).is_none()
+        && server.flow(peer(4)).is_some()
+        && is_open(server, peer(1))
 }
 
 fn takes_a_place(alloc: Global) -> Option<bool> {
     let ack = foreign_ack(alloc)?;
-    makes_way(&mut server(alloc, CookieUse::InACrowd)?, ack.bytes())
+    let mut server = server(alloc, CookieUse::InACrowd)?;
+    Some(makes_way(&mut server, ack.bytes()))
 }
 
-// How a datagram of the first peer is met, and the first event.
-fn told(
-    server: &mut EventServer,
-    bytes: &[u8],
-    out: &mut Outbox,
-) -> Option<(Way, Option<FlowEvent>)> {
+// Whether a datagram of the first peer is met so.
+fn arrives(server: &mut EventServer, bytes: &[u8], way: Way, out: &mut Outbox) -> bool {
+    let Some(first) = Seq48::new(7000) else {
+        return false;
+    };
     if 2044 < bytes.len() {
-        return None;
+        return false;
     }
-    let first = Seq48::new(7000)?;
     match server.arrive(peer(1), first, &DecodedDatagram::new(bytes), 150, out) {
-        Ok(meeting) => Some((meeting.way, server.next_event())),
-        Err(_) => None,
+        Ok(meeting) => meeting.way == way,
+        Err(_) => false,
     }
+}
+
+fn tells_of_opening(server: &mut EventServer) -> bool {
+    match server.next_event() {
+        Some(event) => {
+            event.peer == peer(1) && event.user == 0 && event.kind == EventKind::Opened
+        }
+        None => false,
+    }
+}
+
+// If it takes no new flows, there is no event.
+fn is_shut(server: &mut EventServer, ack: &[u8], out: &mut Outbox) -> bool {
+    server.set_shut(true);
+    arrives(server, ack, Way::Plain, out)
+        && server.next_event().is_none()
+        && server.server().flows() == 0
 }
 
 // A server opens a flow for the Ack, with an event for its owner; but not if it takes no new flows.
-fn tells_of(server: &mut EventServer, ack: &[u8]) -> Option<bool> {
+fn tells_of(server: &mut EventServer, ack: &[u8]) -> bool {
     let mut out = Outbox::new();
-    server.set_shut(true);
-    let shut = told(server, ack, &mut out)?;
-    let kept = server.server().flows();
+    let shut = is_shut(server, ack, &mut out);
     server.set_shut(false);
-    let opened = told(server, ack, &mut out)?;
-    let event = FlowEvent {
-        peer: peer(1),
-        user: 0,
-        kind: EventKind::Opened,
-    };
-    Some(shut == (Way::Plain, None) && kept == 0 && opened == (Way::Reopened, Some(event)))
+    shut && arrives(server, ack, Way::Reopened, &mut out) && tells_of_opening(server)
 }
 
-fn event_server(alloc: Global) -> Option<EventServer> {
-    let mut server = EventServer::new(alloc, config()?, Pace::usual(), Rules::usual());
+fn event_server(alloc: Global) -> Option<Box<EventServer>> {
+    let server = EventServer::new(alloc, config()?, Pace::usual(), Rules::usual());
+    let mut server = boxed(alloc, server).ok()?;
     server.rekey([7; 32], 0);
     Some(server)
 }
 
 fn tells(alloc: Global) -> Option<bool> {
     let ack = foreign_ack(alloc)?;
-    tells_of(&mut event_server(alloc)?, ack.bytes())
+    let mut server = event_server(alloc)?;
+    Some(tells_of(&mut server, ack.bytes()))
 }
 
 #[test]
