@@ -23,9 +23,9 @@ pub struct Ticket {
     pub class: u8,
 }
 
-/// How many peers there are, by address and port.
+// How many peers there are, by address and port.
 const PEERS: u128 = 0x1_0000_0000_0000;
-/// How many times there are.
+// How many times there are.
 const TIMES: u128 = 0x1_0000_0000_0000_0000;
 
 // The ticket of a peer as one number. Numbers are in the order of tickets.

@@ -151,7 +151,7 @@ impl<V: Moment> Register<V> {
         if self.has(peer) {
             return Ok(true);
         }
-        // Twice the places, since a full ring moves all tickets to be one slice.
+        // Twice the places: a ring that is full moves every ticket when it is made one slice.
         let more = self.entries.len() + 2;
         let Ok(()) = self.tickets.try_reserve(more) else {
             return Err(NoMemory);
