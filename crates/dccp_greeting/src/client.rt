@@ -44,8 +44,12 @@ impl Client {
             peer: SERVER_PORT,
         };
         let config = widened(Config::client(addresses, ports, SERVICE, Seq48::new(1_000)?));
-        let congestion = Kinds::new(alloc).ok()?;
-        let connection = Session::new(alloc, config, congestion, Pace::usual()).ok()?;
+        let Ok(congestion) = Kinds::new(alloc) else {
+            return None;
+        };
+        let Ok(connection) = Session::new(alloc, config, congestion, Pace::usual()) else {
+            return None;
+        };
         Some(Client {
             peer,
             connection,

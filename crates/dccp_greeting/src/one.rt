@@ -43,8 +43,10 @@ impl ServerOfOne {
     // A datagram of a stranger, whose address and port a socket gives.
     fn meet(&mut self, peer: Peer, datagram: &[u8], now: u64, network: &mut Wire) -> Option<()> {
         let config = config_for(peer)?;
-        let congestion = Kinds::new(self.alloc).ok()?;
-        self.connection = accept(
+        let Ok(congestion) = Kinds::new(self.alloc) else {
+            return None;
+        };
+        let Ok(connection) = accept(
             self.alloc,
             config,
             congestion,
@@ -52,8 +54,10 @@ impl ServerOfOne {
             datagram,
             now,
             network,
-        )
-        .ok()?;
+        ) else {
+            return None;
+        };
+        self.connection = connection;
         Some(())
     }
 
