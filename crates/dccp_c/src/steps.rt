@@ -45,15 +45,23 @@ fn boxed(alloc: Global, timed: TimedEnd<Kinds>, intake: Intake) -> Result<Box<Ow
     ensures intake { IfOk result (λ held. held.value.intake ≡ intake) }
     ensures drops { IfOk result (λ held. held.value.drops ≡ []) }
 {
-    let out = Outbox::new();
     let drops = DropRecord::new(alloc)?;
-    let held = OwnedEnd {
-        timed,
-        intake,
-        out,
-        cookie: ClientCookie::none(),
-        drops,
-    };
+    in_box(
+        alloc,
+        OwnedEnd {
+            timed,
+            intake,
+            out: Outbox::new(),
+            cookie: ClientCookie::none(),
+            drops,
+        },
+    )
+}
+
+// Puts an end into its box; a proof follows each field of what a function owns, so this is apart.
+fn in_box(alloc: Global, held: OwnedEnd) -> Result<Box<OwnedEnd>, NoMemory>
+    ensures { IfOk result (λ it. it.value ≡ held) }
+{
     match Box::new(alloc, held) {
         Ok(held) => Ok(held),
         Err(_) => Err(NoMemory),
