@@ -1,0 +1,5 @@
+use Rattle.tool_text.proofs.Keeping.{keeps_through}
+use Rattle.tool_text.proofs.text.put_dotted.Goals as goal
+
+pub returns-clause-front : goal.returns-clause-front
+returns-clause-front c = search keeps_through
