@@ -93,6 +93,7 @@ direction-reads s known entry there packet false addresses are = tt
 
 number-reads : (s : FlowSearch) (number : ℕ) (entry : RecordParts) (there : DatagramParts) (packet : Parts) → HasByteAddresses there.pseudo → IsOfBytes packet
     → IsPassedBack (by_number s number entry there packet)
+unfolding by_sender
 number-reads s number entry there packet addresses are =
     let from : AddressAndPort = from_end there.pseudo packet.header.from in
     let known : KnownFlow = known_by s.known from (packet_type packet.header.kind) in

@@ -92,7 +92,7 @@ by_direction s known entry there packet goes =
     else passed_over (with_known s (known_number known packet.header.number))
 
 -- a packet of the flow, from the side that sent it
-abbrev pub by_sender : FlowSearch → RecordParts → DatagramParts → Parts → AddressAndPort → RecordStep FlowPacket FlowSearch
+unfoldable pub by_sender : FlowSearch → RecordParts → DatagramParts → Parts → AddressAndPort → RecordStep FlowPacket FlowSearch
 by_sender s entry there packet from =
     let known = known_by s.known from (packet_type packet.header.kind) in
     by_direction s known entry there packet (goes_to s.side (side_from known.ends from))

@@ -1,5 +1,6 @@
 -- Objects of JSON as they are put together, member by member (RFC 8259, section 4).
-use Rattle.std.specs.Prelude.{ℕ, ◌++◌, Bool, List, map, codes}
+use Rattle.std.specs.Prelude.{ℕ, ◌++◌, Bool, List, [], ◌∷◌, map, codes}
+use Rattle.std.specs.Borrow.{Bor}
 use Rattle.serde_json.specs.Data.{Data, Members, array, boolean, number, object, put, string, unsigned}
 use Rattle.serde_json.specs.View.{items_of, members_view, view}
 use Rattle.serde_json.specs.Written.{compact_text}
@@ -17,6 +18,11 @@ listed i = map view i.values.items
 -- the members with a number of this name
 abbrev pub with_number_named : List ℕ → ℕ → Members → Members
 with_number_named name n members = put name (number (unsigned n)) members
+
+-- the same with numbers of these names, one after the other
+abbrev pub with_numbers : List (Bor (List ℕ) × ℕ) → Members → Members
+with_numbers [] members = members
+with_numbers (named ∷ rest) members = with_numbers rest (with_number_named named.0.now named.1 members)
 
 -- the same with a text
 abbrev pub with_text_named : List ℕ → List ℕ → Members → Members

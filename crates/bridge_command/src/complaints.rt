@@ -9,7 +9,7 @@ use bridge_records::{CaptureRefusal, RecordsEnd, Skips, Tally};
 use dccp_io::{Sink, write_all};
 use seq_circle::NoMemory;
 use std::alloc::Global;
-use tool_text::{JobEnd, LineRefusal, LinesEnd, put, put_counted, put_refusal};
+use tool_text::{JobEnd, LineRefusal, LinesEnd, put, put_counted, put_named, put_refusal};
 
 /// Why the input of a form is refused.
 #[derive(Clone, Copy)]
@@ -94,8 +94,7 @@ fn put_tally(text: &mut Vec<u8>, name: &[u8], tally: Tally) -> Result<(), NoMemo
     if tally.count == 0 {
         return Ok(());
     }
-    put(text, b"skipped ")?;
-    put(text, name)?;
+    put_named(text, b"skipped ", name)?;
     put_counted(text, b": ", tally.count)?;
     put_counted(text, b", first ", u64::from(tally.first))?;
     put(text, b"\n")
@@ -116,29 +115,19 @@ fn put_skips(text: &mut Vec<u8>, skips: &Skips) -> Result<(), NoMemory>
 fn put_capture_line(text: &mut Vec<u8>, refusal: &CaptureRefusal) -> Result<(), NoMemory>
     ensures { OnOk result (text.new.items ≡ text.old.items ++ spec.capture_line refusal.now) }
 {
-    put(text, b"capture ")?;
-    put(text, fault_name(refusal.fault).as_bytes())?;
+    put_named(text, b"capture ", fault_name(refusal.fault).as_bytes())?;
     put(text, b" after ")?;
     put_counted(text, b"record ", refusal.records)?;
     put(text, b"\n")
 }
 
-// Puts the line that says why an input is refused.
-fn put_complaint(text: &mut Vec<u8>, complaint: &Complaint) -> Result<(), NoMemory>
-    ensures { OnOk result (text.new.items ≡ text.old.items ++ spec.complaint_line complaint.now) }
-{
-    match complaint {
-        Complaint::Line(refusal) => put_refusal(text, refusal.number, refusal.fault),
-        Complaint::Capture(refusal) => put_capture_line(text, refusal),
-    }
-}
-
-// Puts that line, or nothing if the input is not refused.
+// Puts the line that says why an input is refused, or nothing if it is not.
 fn put_refused(text: &mut Vec<u8>, complaint: &Option<Complaint>) -> Result<(), NoMemory>
     ensures { OnOk result (text.new.items ≡ text.old.items ++ spec.complaint_text complaint.now) }
 {
     match complaint {
-        Some(complaint) => put_complaint(text, complaint),
+        Some(Complaint::Line(refusal)) => put_refusal(text, refusal.number, refusal.fault),
+        Some(Complaint::Capture(refusal)) => put_capture_line(text, refusal),
         None => Ok(()),
     }
 }

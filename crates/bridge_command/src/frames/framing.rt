@@ -128,6 +128,7 @@ impl FlowSearch {
     }
 
     // A packet of the flow.
+    #[tactic(auto, unfolding(crate::specs::Framing::by_sender))]
     fn pass_by_sender(
         &mut self,
         item: &Record<'_>,

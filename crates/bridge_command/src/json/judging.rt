@@ -72,12 +72,14 @@ fn nanoseconds_of(nanos: bool, fraction: u32) -> u64
 fn put_stamp(object: &mut Object, item: &Record<'_>) -> Result<(), NoMemory>
     ensures { OnOk result (members_seen object.new ≡ with_stamp (entry_of item.now) (members_seen object.old)) }
 {
-    object.number("record", item.number)?;
-    object.number("seconds", u64::from(item.seconds))?;
-    object.number("nanoseconds", nanoseconds_of(item.nanos, item.fraction))?;
-    object.number("link", u64::from(item.link))?;
-    object.number("length", u64::from(item.original))?;
-    object.number("captured", item.bytes.len() as u64)
+    object.numbers(&[
+        ("record", item.number),
+        ("seconds", u64::from(item.seconds)),
+        ("nanoseconds", nanoseconds_of(item.nanos, item.fraction)),
+        ("link", u64::from(item.link)),
+        ("length", u64::from(item.original)),
+        ("captured", item.bytes.len() as u64),
+    ])
 }
 
 fn put_skip(object: &mut Object, skip: Skip) -> Result<(), NoMemory>

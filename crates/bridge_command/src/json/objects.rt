@@ -5,7 +5,7 @@ ghost use Rattle.tool_text.specs.Lines.{is_text};
 ghost use Rattle.serde_json.specs.Data.{no_members, number as number_data, object as object_data, put as with_member, string, unsigned};
 ghost use Rattle.serde_json.specs.View.{view};
 ghost use Rattle.serde_json.specs.Written.{members_have_float};
-ghost use Rattle.bridge_command.specs.Members.{listed, members_seen, object_line, with_list_named, with_number_named, with_text_named, with_truth_named};
+ghost use Rattle.bridge_command.specs.Members.{listed, members_seen, object_line, with_list_named, with_number_named, with_numbers, with_text_named, with_truth_named};
 
 use seq_circle::NoMemory;
 use serde_json::{Map, Value, push, put};
@@ -105,6 +105,16 @@ impl Object {
         ensures { OnOk result (members_seen self.new ≡ with_number_named name.now number (members_seen self.old)) }
     {
         self.put(name, Value::from(number))
+    }
+
+    /// Puts numbers under these names, one after the other.
+    pub(crate) fn numbers(&mut self, numbers: &[(&'static str, u64)]) -> Result<(), NoMemory>
+        ensures { OnOk result (members_seen self.new ≡ with_numbers numbers.now (members_seen self.old)) }
+    {
+        for named in numbers {
+            self.number(named.0, named.1)?;
+        }
+        Ok(())
     }
 
     /// Puts true or false under this name.

@@ -81,8 +81,10 @@ fn vector_run(alloc: Global, byte: u8) -> Result<Object, NoMemory>
     ensures { IfOk result (λ o. members_seen o ≡ spec.vector_run byte) }
 {
     let mut object = Object::new(alloc);
-    object.number("state", u64::from(byte / 64))?;
-    object.number("length", u64::from(byte % 64) + 1)?;
+    object.numbers(&[
+        ("state", u64::from(byte / 64)),
+        ("length", u64::from(byte % 64) + 1),
+    ])?;
     Ok(object)
 }
 
@@ -95,8 +97,10 @@ fn drop_block(alloc: Global, byte: u8) -> Result<Object, NoMemory>
         object.number("length", u64::from(byte % 128) + 1)?;
         return Ok(object);
     }
-    object.number("length", u64::from(byte % 16) + 1)?;
-    object.number("code", u64::from(byte / 16 % 8))?;
+    object.numbers(&[
+        ("length", u64::from(byte % 16) + 1),
+        ("code", u64::from(byte / 16 % 8)),
+    ])?;
     Ok(object)
 }
 
@@ -144,8 +148,10 @@ fn put_echo(object: &mut Object, body: &[u8]) -> Result<(), NoMemory>
     requires { 4 ≤ length body.now }
     ensures { OnOk result (members_seen object.new ≡ spec.with_echo body.now (members_seen object.old)) }
 {
-    object.number("timestamp", number_of(&body[..TIMESTAMP_SIZE]))?;
-    object.number("elapsed", number_of(&body[TIMESTAMP_SIZE..]))
+    object.numbers(&[
+        ("timestamp", number_of(&body[..TIMESTAMP_SIZE])),
+        ("elapsed", number_of(&body[TIMESTAMP_SIZE..])),
+    ])
 }
 
 // The name of the number that an option of this type is, if it has this many bytes.

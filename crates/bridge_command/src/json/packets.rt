@@ -3,6 +3,7 @@ ghost use Rattle.std.specs.List.{list_all};
 ghost use Rattle.std.specs.Net.Text.{ip_text};
 ghost use Rattle.std.specs.Prelude.{◌≡◌, ◌≤◌, length, not, true, OnOk};
 ghost use Rattle.dccp_packets.specs.Grammar.{is_long};
+ghost use Rattle.dccp_packets.specs.declared.header.Number.TheVariants.{Long};
 ghost use Rattle.packet_show.specs.Lines.{parts_by};
 ghost use Rattle.packet_show.specs.Network.{carried_by};
 ghost use Rattle.tool_text.specs.Lines.{is_text};
@@ -15,7 +16,7 @@ use crate::json::skips::byte_at;
 use dccp_packets::{Header, Kind, Number, Packet};
 use dccp_sum::{Pseudo, check};
 use packet_show::{Datagram, sum_name, type_name};
-use seq_circle::NoMemory;
+use seq_circle::{NoMemory, Seq48};
 use std::net::{IpAddr, Ipv4Addr, Ipv6Addr};
 
 // The address that a packet goes from.
@@ -81,8 +82,10 @@ fn ecn_of(pseudo: &Pseudo, ip: &[u8]) -> u8
 pub(crate) fn put_ip(object: &mut Object, there: &Datagram<'_>, ip: &[u8]) -> Result<(), NoMemory>
     ensures { OnOk result (members_seen object.new ≡ with_ip (carried_by there.now) ip.now (members_seen object.old)) }
 {
-    object.number("ttl", u64::from(hops_of(&there.pseudo, ip)))?;
-    object.number("ecn", u64::from(ecn_of(&there.pseudo, ip)))?;
+    object.numbers(&[
+        ("ttl", u64::from(hops_of(&there.pseudo, ip))),
+        ("ecn", u64::from(ecn_of(&there.pseudo, ip))),
+    ])?;
     put_addresses(object, there)
 }
 
@@ -90,8 +93,10 @@ pub(crate) fn put_ip(object: &mut Object, there: &Datagram<'_>, ip: &[u8]) -> Re
 fn put_ports(object: &mut Object, header: &Header) -> Result<(), NoMemory>
     ensures { OnOk result (members_seen object.new ≡ with_ports header.now (members_seen object.old)) }
 {
-    object.number("source_port", u64::from(header.from))?;
-    object.number("destination_port", u64::from(header.to))
+    object.numbers(&[
+        ("source_port", u64::from(header.from)),
+        ("destination_port", u64::from(header.to)),
+    ])
 }
 
 fn is_short(number: Number) -> bool
@@ -108,9 +113,11 @@ fn put_header(object: &mut Object, header: &Header) -> Result<(), NoMemory>
     object.text("type", type_name(header.kind.packet_type()))?;
     object.number("sequence", header.number.value().get())?;
     object.truth("short", is_short(header.number))?;
-    object.number("ccval", u64::from(header.ccval))?;
-    object.number("cscov", u64::from(header.cscov))?;
-    object.number("checksum", u64::from(header.checksum))
+    object.numbers(&[
+        ("ccval", u64::from(header.ccval)),
+        ("cscov", u64::from(header.cscov)),
+        ("checksum", u64::from(header.checksum)),
+    ])
 }
 
 fn put_ack(object: &mut Object, ack: Number) -> Result<(), NoMemory>
@@ -119,14 +126,17 @@ fn put_ack(object: &mut Object, ack: Number) -> Result<(), NoMemory>
     object.number("acknowledgement", ack.value().get())
 }
 
-// Puts the Reset Code, and Data 1 to 3.
-fn put_code(object: &mut Object, code: u8, detail: [u8; 3]) -> Result<(), NoMemory>
-    ensures { OnOk result (members_seen object.new ≡ with_code code detail (members_seen object.old)) }
+// Puts the number that a Reset acknowledges, the Reset Code, and Data 1 to 3.
+fn put_reset(object: &mut Object, ack: Seq48, code: u8, detail: [u8; 3]) -> Result<(), NoMemory>
+    ensures { OnOk result (members_seen object.new ≡ with_code code detail (with_ack (Long ack) (members_seen object.old))) }
 {
-    object.number("reset_code", u64::from(code))?;
-    object.number("data_1", u64::from(detail[0]))?;
-    object.number("data_2", u64::from(detail[1]))?;
-    object.number("data_3", u64::from(detail[2]))
+    object.numbers(&[
+        ("acknowledgement", ack.get()),
+        ("reset_code", u64::from(code)),
+        ("data_1", u64::from(detail[0])),
+        ("data_2", u64::from(detail[1])),
+        ("data_3", u64::from(detail[2])),
+    ])
 }
 
 // Puts what only packets of this type carry.
@@ -135,18 +145,15 @@ fn put_kind(object: &mut Object, kind: &Kind) -> Result<(), NoMemory>
 {
     match *kind {
         Kind::Request { service } => object.number("service_code", u64::from(service)),
-        Kind::Response { ack, service } => {
-            put_ack(object, Number::Long(ack))?;
-            object.number("service_code", u64::from(service))
-        }
+        Kind::Response { ack, service } => object.numbers(&[
+            ("acknowledgement", ack.get()),
+            ("service_code", u64::from(service)),
+        ]),
         Kind::Data => Ok(()),
         Kind::Ack { ack } | Kind::DataAck { ack } => put_ack(object, ack),
         Kind::CloseReq { ack } | Kind::Close { ack } | Kind::Sync { ack } | Kind::SyncAck { ack } =>
             put_ack(object, Number::Long(ack)),
-        Kind::Reset { ack, code, detail } => {
-            put_ack(object, Number::Long(ack))?;
-            put_code(object, code, detail)
-        }
+        Kind::Reset { ack, code, detail } => put_reset(object, ack, code, detail),
     }
 }
 

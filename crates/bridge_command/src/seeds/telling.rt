@@ -1,7 +1,7 @@
 //! The lines of seeds.
 ghost use Rattle.std.specs.Prelude.{◌≡◌, ◌≤◌, ◌++◌, [], false, IfOk, OnOk, Some};
 ghost use Rattle.bridge_command.specs.Members.{members_seen};
-ghost use Rattle.bridge_command.specs.SeedLines.{seed_line, seed_members, seed_state, seeds_text, with_outcomes, with_frames_counted, with_state};
+ghost use Rattle.bridge_command.specs.SeedLines.{seed_line, seed_members, seed_state, seeds_text};
 ghost use Rattle.tool_forms.specs.BridgeWords.{IsRangeWithinBounds};
 ghost use Rattle.tool_text.specs.Ends.{Answers, EndsForCause, SinkFails};
 
@@ -28,48 +28,27 @@ fn seed_state(report: &Report) -> &'static str
     "unsettled"
 }
 
-impl Object {
-    // Puts which seed it is, how many events it had, and what both sides sent.
-    fn sent(&mut self, seed: u64, report: &Report) -> Result<(), NoMemory>
-        ensures { OnOk result (members_seen self.new ≡ with_frames_counted seed report.now (members_seen self.old)) }
-    {
-        self.number("seed", seed)?;
-        self.number("events", report.events)?;
-        self.number("client_frames", report.client_frames)?;
-        self.number("server_frames", report.server_frames)
-    }
-
-    // Puts what became of the packets that came.
-    fn outcomes(&mut self, report: &Report) -> Result<(), NoMemory>
-        ensures { OnOk result (members_seen self.new ≡ with_outcomes report.now (members_seen self.old)) }
-    {
-        self.number("took", report.took)?;
-        self.number("delivered", report.delivered)?;
-        self.number("dropped", report.dropped)?;
-        self.number("synced", report.synced)?;
-        self.number("was_reset", report.was_reset)?;
-        self.number("sent_reset", report.sent_reset)
-    }
-
-    // Puts the calls that were refused, the features that are settled, and the result of the run.
-    fn state(&mut self, report: &Report) -> Result<(), NoMemory>
-        ensures { OnOk result (members_seen self.new ≡ with_state report.now (members_seen self.old)) }
-    {
-        self.number("refused", report.refused)?;
-        self.number("settled", report.settled)?;
-        self.string("state", seed_state(report))
-    }
-}
-
 // The object of a seed, with what was counted of it.
 #[tactic(auto, unfolding(crate::specs::SeedLines::seed_members))]
 fn seed_object(alloc: Global, seed: u64, report: &Report) -> Result<Object, NoMemory>
     ensures { IfOk result (λ o. members_seen o ≡ seed_members seed report.now) }
 {
     let mut object = Object::new(alloc);
-    object.sent(seed, report)?;
-    object.outcomes(report)?;
-    object.state(report)?;
+    object.numbers(&[
+        ("seed", seed),
+        ("events", report.events),
+        ("client_frames", report.client_frames),
+        ("server_frames", report.server_frames),
+        ("took", report.took),
+        ("delivered", report.delivered),
+        ("dropped", report.dropped),
+        ("synced", report.synced),
+        ("was_reset", report.was_reset),
+        ("sent_reset", report.sent_reset),
+        ("refused", report.refused),
+        ("settled", report.settled),
+    ])?;
+    object.string("state", seed_state(report))?;
     Ok(object)
 }
 
