@@ -2,7 +2,7 @@
 use Rattle.std.proofs.Common.{◌≡◌, refl, ℕ, Bool, false, true, List, ◌++◌, replicate, take, codes}
 use Rattle.std.specs.Fmt.{digits}
 use Rattle.bridge_command.specs.Complaints.{capture_complaint, capture_line, complaint_text}
-use Rattle.bridge_command.specs.Framing.{framed_record, frames_pieces, frames_text, is_frames_faulty}
+use Rattle.bridge_command.specs.Framing.{by_sender, framed_record, frames_pieces, frames_text, is_frames_faulty}
 use Rattle.bridge_records.specs.Recording.{capture_refusal}
 use Rattle.world_events.specs.declared.event.Side.{Side}
 use Rattle.world_events.specs.declared.event.Side.TheVariants.{Server}
@@ -37,5 +37,5 @@ long =
 a_packet_too_long_for_a_frame :
     framed 1 Server (long ++ replicate 2029 0)
     ≡ (codes "# 1 1.000000 flow 1 192.0.2.1 7000 > 192.0.2.2 33 Data seq 7 data 2029 sum wrong\n# no frame: FrameTooLong\n", false)
-unfolding framed_record capture_line digits
+unfolding by_sender framed_record capture_line digits
 a_packet_too_long_for_a_frame = refl
