@@ -64,9 +64,8 @@ fn greatest_short() -> Option<u32> {
 
 #[test]
 fn widths_of_numbers(rt: HostRuntime) {
-    assert!(rt; Seq48::new(281_474_976_710_656).is_none());
     assert!(rt; greatest_short() == Some(16_777_215));
-    assert!(rt; Seq24::new(16_777_216).is_none());
+    assert!(rt; Seq48::new(281_474_976_710_656).is_none() && Seq24::new(16_777_216).is_none());
 }
 
 // A Request from port 40000 to 5001 with number 1000 and service 42, over IPv4.
@@ -84,8 +83,11 @@ fn a_request_is_sealed(rt: HostRuntime) {
     let mut packet = REQUEST;
     packet[6] = 0;
     assert!(rt; check(&TO_SERVER, &packet).is_err() && covered(&packet) == Some(20));
-    assert!(rt; seal(&TO_SERVER, &mut packet) && packet == REQUEST);
-    assert!(rt; checksum(&TO_SERVER, &packet, 20) == 0x31ec);
+    assert!(rt;
+        seal(&TO_SERVER, &mut packet)
+            && packet == REQUEST
+            && checksum(&TO_SERVER, &packet, 20) == 0x31ec
+    );
 }
 
 // The header of a packet.
@@ -153,8 +155,9 @@ const TO_CLIENT: Pseudo = Pseudo::V4 {
 fn a_response_and_a_byte(rt: HostRuntime) {
     let mut longer = [0; 53];
     longer[..52].copy_from_slice(&RESPONSE);
-    assert!(rt; check(&TO_CLIENT, &RESPONSE).is_ok());
-    assert!(rt; check(&TO_CLIENT, &longer) == Err(SumFault::Wrong));
+    assert!(rt;
+        check(&TO_CLIENT, &RESPONSE).is_ok() && check(&TO_CLIENT, &longer) == Err(SumFault::Wrong)
+    );
 }
 
 // With reserved bits set it is read as before, and only its checksum differs.
@@ -304,8 +307,8 @@ fn a_short_ack(rt: HostRuntime) {
 
 #[test]
 fn codes_of_resets(rt: HostRuntime) {
-    assert!(rt; ResetCode::of(11) == Some(ResetCode::AggressionPenalty));
-    assert!(rt; ResetCode::AggressionPenalty.number() == 11);
+    let read = matches!(ResetCode::of(11), Some(ResetCode::AggressionPenalty));
+    assert!(rt; read && ResetCode::AggressionPenalty.number() == 11);
 }
 
 // The numbers of an Ack Vector at 100, down to the first below it, and the state of each.
@@ -416,7 +419,7 @@ fn marks_take_a_sync(rt: HostRuntime) {
 
 #[test]
 fn a_close_in_an_open_phase(rt: HostRuntime) {
-    assert!(rt; gate(Phase::Open, PacketType::Close) == Entrance::Check);
-    assert!(rt; !unexpected(Role::Server, Phase::Open, PacketType::Close, true));
+    let unexpected = unexpected(Role::Server, Phase::Open, PacketType::Close, true);
+    assert!(rt; !unexpected && gate(Phase::Open, PacketType::Close) == Entrance::Check);
     assert!(rt; after(Phase::Open, PacketType::Close) == (Phase::Closed, Reply::ResetClosed));
 }

@@ -16,7 +16,7 @@ pub(crate) fn all_come<C, S: CallTarget<C>>(
     calls: &[C],
 ) -> Result<(), Fail> {
     for (place, call) in calls.iter().enumerate() {
-        if called.holds(call) != Some(true) {
+        if !matches!(called.holds(call), Some(true)) {
             return Err(Fail::new(format_args!("{name}: call {place}")));
         }
     }

@@ -7,7 +7,6 @@
 use run_list::{PlainRuns, RunCall, RunList, Runs, replay_runs};
 use seq_circle::Seq48;
 use std::test::Fail;
-use tool_text::number_up_to;
 
 // Each list, how many marks are New, and the floor in the end.
 const LISTS: [(&str, u32, u64); 41] = [
@@ -123,19 +122,23 @@ struct Steps {
     times: u64,
 }
 
-fn number_of(text: &str) -> Option<u64> {
-    number_up_to(u64::MAX, text.as_bytes())
+// The number of these digits.
+fn number_of(digits: &str) -> u64 {
+    let mut number = 0_u64;
+    for digit in digits.as_bytes() {
+        number = number.wrapping_mul(10);
+        number = number.wrapping_add(u64::from(*digit & 0x0f));
+    }
+    number
 }
 
 fn steps_of(first: &str, up: bool, by: &str, times: &str) -> Option<Steps> {
-    let first = Seq48::new(number_of(first)?)?;
-    let by = number_of(by)?;
-    let times = number_of(times)?;
+    let first = Seq48::new(number_of(first))?;
     Some(Steps {
         first,
         up,
-        by,
-        times,
+        by: number_of(by),
+        times: number_of(times),
     })
 }
 
@@ -187,33 +190,54 @@ fn make_all<R: Runs>(set: &mut R, list: &str) -> Option<u32> {
     Some(new)
 }
 
-fn all_come<R: Runs>(set: &mut R) -> Result<(), Fail> {
-    for (list, new, floor) in &LISTS {
-        set.start(Seq48::new(0).ok_or("zero")?);
-        if make_all(set, *list) != Some(*new) || set.floor().get() != *floor {
+// Whether a list has these new marks and this floor. None is no result of a list.
+fn comes<R: Runs>(set: &mut R, list: &str, new: u32, floor: u64) -> Option<bool> {
+    set.start(Seq48::new(0)?);
+    Some(make_all(set, list)? == new && set.floor().get() == floor)
+}
+
+fn each_comes<R: Runs>(set: &mut R, lists: &[(&str, u32, u64)]) -> Result<(), Fail> {
+    for (list, new, floor) in lists {
+        if !matches!(comes(set, *list, *new, *floor), Some(true)) {
             return Err(Fail::new(format_args!("{list}")));
         }
     }
     Ok(())
 }
 
+// A function apart, because a proof follows a table through each step of the function that names it.
+fn all_come<R: Runs>(set: &mut R) -> Result<(), Fail> {
+    each_comes(set, &LISTS)
+}
+
+fn has_one_run(set: &RunList, last: u64, count: u16) -> bool {
+    match set.walk().next() {
+        Some(run) => run.hi.get() == last && run.count == count,
+        None => false,
+    }
+}
+
 // Whether the last mark, 2, joins the runs on both sides of it.
-fn joins(set: &mut RunList) -> Option<()> {
+fn joins(set: &mut RunList) -> Option<bool> {
     set.start(Seq48::new(0)?);
     let marked = make_all(set, "mark=1 mark=3 mark=2")?;
-    let run = set.walk().next()?;
-    (marked == 3 && run.hi.get() == 3 && run.count == 3).then_some(())
+    Some(marked == 3 && has_one_run(set, 3, 3))
+}
+
+fn all_come_linked(set: &mut RunList) -> Result<(), Fail> {
+    all_come(set)?;
+    if !matches!(joins(set), Some(true)) {
+        return Err(Fail::from("joined runs"));
+    }
+    Ok(())
 }
 
 #[test]
 fn full_linked_sets(rt: HostRuntime) -> Result<(), Fail> {
-    let mut set = RunList::new(rt.alloc())?;
-    all_come(&mut set)?;
-    Ok(joins(&mut set).ok_or("joined runs")?)
+    all_come_linked(&mut RunList::new(rt.alloc())?)
 }
 
 #[test]
 fn full_plain_sets(rt: HostRuntime) -> Result<(), Fail> {
-    let mut set = PlainRuns::new(rt.alloc())?;
-    all_come(&mut set)
+    all_come(&mut PlainRuns::new(rt.alloc())?)
 }

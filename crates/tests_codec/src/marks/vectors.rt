@@ -116,8 +116,7 @@ impl CallTarget<Call> for Received {
 
 // Makes these calls of a new set, one after another.
 fn play(alloc: Global, name: &str, calls: &[Call]) -> Result<(), Fail> {
-    let mut received = Received::new(alloc)?;
-    all_come(&mut received, name, calls)
+    all_come(&mut Received::new(alloc)?, name, calls)
 }
 
 const LISTS: [(&str, &[Call]); 6] = [

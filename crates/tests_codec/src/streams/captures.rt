@@ -15,7 +15,8 @@ fn is_handed_back(alloc: Global) -> Result<bool, Fail> {
     match Captures::new(alloc, source_of(alloc, &REFUSED, 0, 26)?) {
         Ok(_) => Ok(false),
         Err((fault, mut source)) => {
-            Ok(fault == CaptureFault::BadMagic && gives(alloc, &mut source, 100, b"st"))
+            let is_left = gives(alloc, &mut source, 100, b"st");
+            Ok(is_left && fault == CaptureFault::BadMagic)
         }
     }
 }
@@ -44,7 +45,8 @@ fn fails_in_a_record(alloc: Global) -> Result<bool, Fail> {
         Ok(mut captures) => {
             let stays = fails_again(&mut captures);
             let left = [0x45, 0, 0, 0x28, 0, 1];
-            Ok(stays && gives(alloc, &mut captures.into_source(), 100, &left))
+            let is_left = gives(alloc, &mut captures.into_source(), 100, &left);
+            Ok(stays && is_left)
         }
         Err(_) => Ok(false),
     }

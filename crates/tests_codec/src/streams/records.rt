@@ -35,12 +35,15 @@ fn shown(flows: &mut Flows, text: &mut Vec<u8>) -> Option<u64> {
     }
 }
 
+fn are_shown(flows: &mut Flows, text: &mut Vec<u8>) -> bool {
+    shown(flows, text) == Some(1) && text.as_slice() == TEXT
+}
+
 fn is_told(alloc: Global) -> bool {
-    let mut flows = Flows::new(alloc);
-    let Ok(mut text) = b"before ".to_vec(alloc) else {
-        return false;
-    };
-    shown(&mut flows, &mut text) == Some(1) && text.as_slice() == TEXT
+    match b"before ".to_vec(alloc) {
+        Ok(mut text) => are_shown(&mut Flows::new(alloc), &mut text),
+        Err(_) => false,
+    }
 }
 
 #[test]

@@ -43,12 +43,15 @@ fn gives_to_a_limit(alloc: Global) -> Result<bool, Fail> {
 }
 
 // A call that fails leaves the block as it was.
-fn fails_in_the_middle(alloc: Global) -> Result<bool, Fail> {
-    let mut source = source_of(alloc, b"hello", 2, 2)?;
+fn leaves_its_block(source: &mut MemorySource) -> bool {
     let mut block = [0; 4];
     let first = matches!(source.read(&mut block), Ok(2));
     let failed = matches!(source.read(&mut block), Err(Failed));
-    Ok(first && failed && block == [104, 101, 0, 0])
+    first && failed && block == [104, 101, 0, 0]
+}
+
+fn fails_in_the_middle(alloc: Global) -> Result<bool, Fail> {
+    Ok(leaves_its_block(&mut source_of(alloc, b"hello", 2, 2)?))
 }
 
 fn is_lost(alloc: Global) -> Result<bool, Fail> {
@@ -250,7 +253,8 @@ fn leaves_the_rest(alloc: Global) -> Result<bool, Fail> {
     match Lines::new(alloc, source_of(alloc, b"one\ntwo\nthree", 0, 1)?) {
         Ok(mut lines) => {
             let is_first = is_one(&mut lines);
-            Ok(is_first && gives(alloc, &mut lines.into_source(), 100, b"two\nthree"))
+            let is_left = gives(alloc, &mut lines.into_source(), 100, b"two\nthree");
+            Ok(is_first && is_left)
         }
         Err(_) => Err(Fail::from("no memory")),
     }
