@@ -6,6 +6,7 @@ import sys
 from pathlib import Path
 
 from crates import TOP
+from machine import free_memory, processors
 
 
 def store():
@@ -36,7 +37,7 @@ def standing(needed, proved):
     """Says how many crates are left of those needed, and which are being proved: those whose libraries are, as many as there are processors."""
     left = [it for it in needed if it not in proved]
     begun = [it for it in left if all(below in proved or below not in needed for below in needed[it])]
-    return f"{len(left)} of {len(needed)} are left" + (f", at {', '.join(begun[:os.cpu_count()])}" if begun else "")
+    return f"{len(left)} of {len(needed)} are left" + (f", at {', '.join(begun[:processors()])}" if begun else "")
 
 
 def chain_of(needed, weight):
@@ -74,12 +75,15 @@ def beside(needed, crate, later):
 MEMORY = 4 * 2**30
 
 
+def lanes():
+    """Returns how many proofs may run beside one another: one for each processor that has memory for one."""
+    return min(processors(), free_memory() // MEMORY)
+
+
 def lanes_beside():
     """Returns how many crates are proved beside a heavy one: as many as it leaves processors, if memory allows. rt gives a crate that nothing
     else is ready beside half of the processors, at least one and at most four."""
-    processors, memory = os.cpu_count() or 1, os.sysconf("SC_PAGE_SIZE") * os.sysconf("SC_PHYS_PAGES")
-    taken = max(1, min(4, processors // 2))
-    return max(0, min(processors - taken, memory // MEMORY - taken))
+    return max(0, lanes() - max(1, min(4, processors() // 2)))
 
 
 def minutes_left(needed, proved, seconds):
@@ -88,5 +92,5 @@ def minutes_left(needed, proved, seconds):
     def weight(crate):
         return 0 if crate in proved else seconds.get(crate, 60)
 
-    rest = max(chain_of(needed, weight)[0], sum(map(weight, needed)) / (os.cpu_count() or 1))
+    rest = max(chain_of(needed, weight)[0], sum(map(weight, needed)) / processors())
     return f"about {rest / 60:.0f} minutes more" if rest >= 90 else "about a minute more"
