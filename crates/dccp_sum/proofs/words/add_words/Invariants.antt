@@ -28,3 +28,12 @@ invariant-loop-rest-3 l = record {
 
 abbrev pub decreases-loop-rest-3 : goal.decreases-loop-rest-3
 decreases-loop-rest-3 l = length l.rest
+
+abbrev pub invariant-loop-rest-4 : goal.invariant-loop-rest-4
+invariant-loop-rest-4 l = record {
+  value : IsSameSum (l.start + 256 * l.swapped + word_sum l.rest) (l.start + word_sum l.bytes);
+  bound : l.swapped + 2 ^ 61 * length l.rest ≤ 2 ^ 61 * length l.bytes;
+}
+
+abbrev pub decreases-loop-rest-4 : goal.decreases-loop-rest-4
+decreases-loop-rest-4 l = length l.rest
