@@ -1,16 +1,20 @@
 //! What was received, and the records of sent vectors.
-ghost use Rattle.std.specs.Prelude.{◌≡◌, ◌≢◌, ◌≤◌, ◌<◌, ◌+◌, ◌^◌, ℕ, [], ◌∷◌, ◌++◌, IfOk, IsTrue, ◌↔◌, is_some, length};
+ghost use Rattle.std.specs.Prelude.{◌≡◌, ◌≢◌, ◌≤◌, ◌<◌, ◌+◌, ◌^◌, ℕ, [], ◌∷◌, ◌++◌, IfOk, IsTrue, ◌↔◌, false, is_some, length, nat_le, take};
 ghost use Rattle.std.specs.Bool.{OnFalse};
 ghost use Rattle.std.specs.List.{list_any};
 ghost use Rattle.run_list.specs.MarkedSet.{has, answer_to, IsFrom, IsSound};
 ghost use Rattle.ack_vectors.specs.Kept.{ReceivedState, fresh, marked_by, recorded, acked, is_whole_at, newest_whole};
 ghost use Rattle.ack_vectors.specs.Near.{record_numbers};
 ghost use Rattle.seq_circle.specs.Near.{AreNear};
-ghost use Rattle.ack_vectors.specs.Vector.{vector_under, is_whole_under, room_of};
+ghost use Rattle.ack_vectors.specs.Vector.{all_bytes, is_whole_under, room_of, set_states, vector_under};
+ghost use Rattle.ack_vectors.specs.declared.room.Vectors.TheVariants.{One};
+ghost use Rattle.dccp_options.specs.Written.{spelled};
 
-use crate::room::{VectorBytes, Vectors, room_of};
+use crate::room::{MOST_OPTION, VectorBytes, VectorOption, Vectors, room_of};
 use crate::writing::put_runs;
+use arrayvec::ArrayVec;
 use circular_buffer::HeapCircularBuffer;
+use dccp_options::kinds::ACK_VECTOR_0;
 use run_list::{Marked, RunList};
 use seq_circle::{NoMemory, Seq48};
 use std::alloc::Global;
@@ -171,12 +175,39 @@ impl Received {
         ensures fits { length out.new.items ≤ room_of vectors }
     {
         out.clear();
+        self.append(out, room_of(vectors), ack)
+    }
+
+    /// Puts one option of type 38 in place of what `out` had. Its data are the bytes that `write` gives for `One`, and
+    /// it answers as that does (RFC 4340, section 11.4).
+    pub fn write_option(&self, out: &mut VectorOption, ack: Seq48) -> bool
+        ensures bytes { out.new.items ≡ spelled false 38 (vector_under (has self.now.set.numbers) self.now.set.floor ack One) }
+        ensures whole { result ≡ is_whole_under (has self.now.set.numbers) self.now.set.floor ack One }
+    {
+        out.clear();
+        out.push(ACK_VECTOR_0);
+        out.push(0);
+        let whole = self.append(out, MOST_OPTION, ack);
+        // The length counts all of the option.
+        out[1] = out.len() as u8;
+        whole
+    }
+
+    // Appends the bytes of the vector from `ack` down to the floor, up to `room` bytes in all. Returns whether there was
+    // room for all of them.
+    fn append<const N: usize>(&self, out: &mut ArrayVec<u8, N>, room: usize, ack: Seq48) -> bool
+        requires within { room ≤ N }
+        requires begun { length out.old.items ≤ room }
+        ensures bytes { out.new.items ≡ take room (out.old.items ++ all_bytes (set_states (has self.now.set.numbers)) self.now.set.floor ack) }
+        ensures whole { result ≡ nat_le (length (out.old.items ++ all_bytes (set_states (has self.now.set.numbers)) self.now.set.floor ack)) room }
+        ensures fits { length out.new.items ≤ room }
+    {
         let floor = self.set.floor();
         if !ack.is_from(floor) {
             return true;
         }
         let count = floor.distance(ack) + 1;
-        put_runs(out, room_of(vectors), self.set.walk(), floor, count)
+        put_runs(out, room, self.set.walk(), floor, count)
     }
 
     /// Records a sent packet by its number, the number that it acknowledged and whether its vector was whole. The

@@ -1,13 +1,12 @@
 //! The bytes of a vector, run by run.
-ghost use Rattle.std.specs.Prelude.{◌≡◌, ◌+◌, ◌<◌, ◌≤◌, ◌++◌, [], nat_le, length, take};
+ghost use Rattle.std.specs.Prelude.{◌≡◌, ◌+◌, ◌<◌, ◌≤◌, ◌++◌, nat_le, length, take};
 ghost use Rattle.std.specs.Bool.{OnTrue, OnFalse};
 ghost use Rattle.arrayvec.specs.ArrayVec.{array_vec_len};
 ghost use Rattle.run_list.specs.Runs.{AreLaid};
-ghost use Rattle.ack_vectors.specs.Vector.{pieces, room_of};
-ghost use Rattle.ack_vectors.specs.declared.room.Vectors.TheVariants.{Two};
+ghost use Rattle.ack_vectors.specs.Vector.{pieces};
 ghost use Rattle.ack_vectors.specs.ByRuns.{bytes_by_runs};
 
-use crate::room::VectorBytes;
+use arrayvec::ArrayVec;
 use run_list::Walk;
 use seq_circle::Seq48;
 
@@ -20,9 +19,9 @@ const MISSING: u8 = 3;
 const MOST: u64 = 64;
 
 // Appends the bytes of a run up to `room` bytes in all. Returns whether there was room for all of them.
-fn put_pieces(out: &mut VectorBytes, room: usize, state: u8, count: u64) -> bool
+fn put_pieces<const N: usize>(out: &mut ArrayVec<u8, N>, room: usize, state: u8, count: u64) -> bool
     requires known { state < 4 }
-    requires within { room ≤ room_of Two }
+    requires within { room ≤ N }
     requires begun { length out.old.items ≤ room }
     ensures whole { OnTrue result (out.new.items ≡ out.old.items ++ pieces state count) }
     ensures fits { length out.new.items ≤ room }
@@ -43,9 +42,9 @@ fn put_pieces(out: &mut VectorBytes, room: usize, state: u8, count: u64) -> bool
 
 // The same. Most runs are one byte for which there is room.
 #[tactic(auto, using(crate::proofs::Pieces::one_piece))]
-fn put_run(out: &mut VectorBytes, room: usize, state: u8, count: u64) -> bool
+fn put_run<const N: usize>(out: &mut ArrayVec<u8, N>, room: usize, state: u8, count: u64) -> bool
     requires known { state < 4 }
-    requires within { room ≤ room_of Two }
+    requires within { room ≤ N }
     requires begun { length out.old.items ≤ room }
     ensures whole { OnTrue result (out.new.items ≡ out.old.items ++ pieces state count) }
     ensures fits { length out.new.items ≤ room }
@@ -60,8 +59,13 @@ fn put_run(out: &mut VectorBytes, room: usize, state: u8, count: u64) -> bool
 }
 
 // Appends the bytes of missing numbers and of the received ones below them. Returns whether there was room for all.
-fn put_both(out: &mut VectorBytes, room: usize, missing: u64, received: u64) -> bool
-    requires within { room ≤ room_of Two }
+fn put_both<const N: usize>(
+    out: &mut ArrayVec<u8, N>,
+    room: usize,
+    missing: u64,
+    received: u64,
+) -> bool
+    requires within { room ≤ N }
     requires begun { length out.old.items ≤ room }
     ensures whole { OnTrue result (out.new.items ≡ out.old.items ++ (pieces 3 missing ++ pieces 0 received)) }
     ensures fits { length out.new.items ≤ room }
@@ -74,21 +78,21 @@ fn put_both(out: &mut VectorBytes, room: usize, missing: u64, received: u64) -> 
     put_run(out, room, RECEIVED, received)
 }
 
-// Writes the bytes of `left` numbers from the floor up, by the runs that were received, up to `room` bytes. Returns
-// whether there was room for all.
-pub(crate) fn put_runs(
-    out: &mut VectorBytes,
+// Appends the bytes of `left` numbers from the floor up, by the runs that were received, up to `room` bytes in all.
+// Returns whether there was room for all.
+pub(crate) fn put_runs<const N: usize>(
+    out: &mut ArrayVec<u8, N>,
     room: usize,
     runs: Walk<'_>,
     floor: Seq48,
     left: u64,
 ) -> bool
-    requires within { room ≤ room_of Two }
-    requires empty { out.old.items ≡ [] }
+    requires within { room ≤ N }
+    requires begun { length out.old.items ≤ room }
     requires laid { AreLaid floor 2048 runs }
-    ensures bytes { out.new.items ≡ take room (bytes_by_runs floor left runs.entry) }
+    ensures bytes { out.new.items ≡ take room (out.old.items ++ bytes_by_runs floor left runs.entry) }
     ensures fits { length out.new.items ≤ room }
-    ensures whole { result ≡ nat_le (length (bytes_by_runs floor left runs.entry)) room }
+    ensures whole { result ≡ nat_le (length (out.old.items ++ bytes_by_runs floor left runs.entry)) room }
 {
     let mut left = left;
     for run in runs {

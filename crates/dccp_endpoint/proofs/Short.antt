@@ -6,7 +6,6 @@ use Rattle.dccp_packets.specs.Forms.{in_form, may_be_short, number_in_form}
 use Rattle.dccp_packets.specs.Grammar.{fixed_length, has_forms, is_long, packet_type}
 use Rattle.dccp_packets.specs.declared.header.Kind.{Kind}
 use Rattle.dccp_packets.specs.declared.header.Kind.TheVariants as kind
-use Rattle.dccp_packets.specs.declared.header.Number.{Number}
 use Rattle.dccp_packets.proofs.Shortened as shortened
 use Rattle.feature_lists.specs.declared.features.Place.{Place}
 use Rattle.feature_lists.specs.declared.features.Place.TheVariants.{Here, There}
@@ -66,15 +65,14 @@ and_true : (b : Bool) → (b && true) ≡ b
 and_true true = refl
 and_true false = refl
 
--- a Data, and a DataAck with its Ack Vector
+-- a Data
 pub short_data : (e : EndState) (payload : List ℕ) → goes_short e (carrying kind.Data payload) ≡ allows_short e
 short_data e payload = and_true (allows_short e)
 
--- a DataAck goes short where the end allows it
-pub short_data_ack : (e : EndState) (ack : Number) (payload : List ℕ) → goes_short e (reporting e (carrying (kind.DataAck ack) payload)) ≡ allows_short e
-short_data_ack e ack payload =
-    ap (λ (b : Bool). allows_short e && not b) (front_is_silent (sends_vectors e.rows) e.config.vectors e.received.set e.marks.gsr [])
-    ∙ and_true (allows_short e)
+-- an Ack or a DataAck with only its Ack Vector goes short where the end allows it
+pub short_report : (e : EndState) (k : Kind) (payload : List ℕ) → may_be_short (packet_type k) ≡ true
+    → goes_short e (reporting e (carrying k payload)) ≡ allows_short e
+short_report e k payload may = short_ack e k [] [] [] may ∙ and_true (allows_short e)
 
 -- the numbers of a header in the form have a form of the type
 pub is_formed : (short : Bool) (number : ℕ) (k : Kind) → has_forms true k ≡ true → (short ≡ true → may_be_short (packet_type k) ≡ true)

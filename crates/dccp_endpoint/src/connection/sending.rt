@@ -12,7 +12,7 @@ use super::classes::is_open;
 use super::{Connection, fit};
 use crate::outgoing::{put_alone, put_frame};
 use crate::speaking::{DueConfirm, asking, open_offers, put_changes, put_confirms, send_all};
-use ack_vectors::VectorBytes;
+use ack_vectors::{VectorBytes, VectorOption, Vectors};
 use dccp_options::kinds::ACK_VECTOR_0;
 use dccp_options::{MOST_OPTION_BYTES, OptWriter};
 use dccp_packets::{Kind, Number, Outbox};
@@ -70,6 +70,7 @@ fn put_options(area: &mut OptWriter, bytes: &[u8])
 impl Connection {
     ghost use Rattle.std.specs.Prelude.{◌+◌, ◌++◌, [], Ok, true, false, None, Some, if◌then◌else◌};
     ghost use Rattle.ack_vectors.specs.Vector.{is_whole_under};
+    ghost use Rattle.ack_vectors.specs.declared.room.Vectors.TheVariants.{One};
     ghost use Rattle.dccp_options.specs.Written.{written};
     ghost use Rattle.run_list.specs.MarkedSet.{has};
     ghost use Rattle.dccp_endpoint.specs.Reporting.{acknowledged, recorded_by, reporting, sends_vectors, vector_items};
@@ -238,6 +239,22 @@ impl Connection {
         ensures counted { self.new ≡ acknowledged self.old }
         ensures sent { out.new ≡ Some (next_frame self.old (reporting self.old (saying kind confirms.now self.old.rows []))) }
     {
+        if confirms.is_empty() {
+            self.send_reporting(kind, &[], out);
+        } else {
+            self.send_ack_with(kind, confirms, out);
+        }
+    }
+
+    // The same in an area that has room for Confirms.
+    #[inline(never)]
+    fn send_ack_with(&mut self, kind: Kind, confirms: &[DueConfirm], out: &mut Outbox)
+        requires form { has_forms true kind ≡ true }
+        requires may { may_be_short (packet_type kind) ≡ true }
+        requires room { HaveRoom confirms.now }
+        ensures counted { self.new ≡ acknowledged self.old }
+        ensures sent { out.new ≡ Some (next_frame self.old (reporting self.old (saying kind confirms.now self.old.rows []))) }
+    {
         let short = self.goes_short(confirms, &[]);
         let mut area = OptWriter::new();
         let whole = self.report(&mut area);
@@ -268,6 +285,75 @@ impl Connection {
         self.record(whole);
     }
 
+    // Writes the Ack Vector as the one option of a packet, if one goes out, and then returns whether it is whole.
+    fn report_alone(&self, option: &mut VectorOption) -> Option<bool>
+        requires empty { option.old.items ≡ [] }
+        requires one { self.now.config.vectors ≡ One }
+        ensures bytes { option.new.items ≡ written (vector_items (sends_vectors self.now.rows) self.now.config.vectors self.now.received.set self.now.marks.gsr) }
+        ensures whole { result ≡ (if sends_vectors self.now.rows then Some (is_whole_under (has self.now.received.set.numbers) self.now.received.set.floor self.now.marks.gsr self.now.config.vectors) else None) }
+    {
+        if !self.sends_vectors() {
+            return None;
+        }
+        Some(self.received.write_option(option, self.marks.gsr))
+    }
+
+    // Sends an Ack or a DataAck with only its Ack Vector, for which one option has room.
+    #[inline(never)]
+    fn send_one_vector(&mut self, kind: Kind, payload: &[u8], out: &mut Outbox)
+        requires one { self.old.config.vectors ≡ One }
+        requires form { has_forms true kind ≡ true }
+        requires may { may_be_short (packet_type kind) ≡ true }
+        requires short { length payload.now ≤ 1024 }
+        ensures counted { self.new ≡ acknowledged self.old }
+        ensures sent { out.new ≡ Some (next_frame self.old (reporting self.old (carrying kind payload.now))) }
+    {
+        let short = self.allows_short();
+        let mut option = VectorOption::new();
+        let whole = self.report_alone(&mut option);
+        let number = self.take_number();
+        put_frame(
+            &self.config,
+            number,
+            short,
+            kind,
+            option.as_slice(),
+            payload,
+            out,
+        );
+        self.record(whole);
+    }
+
+    // The same, however many options the Ack Vector takes up.
+    #[inline(never)]
+    fn send_vectors(&mut self, kind: Kind, payload: &[u8], out: &mut Outbox)
+        requires form { has_forms true kind ≡ true }
+        requires may { may_be_short (packet_type kind) ≡ true }
+        requires short { length payload.now ≤ 1024 }
+        ensures counted { self.new ≡ acknowledged self.old }
+        ensures sent { out.new ≡ Some (next_frame self.old (reporting self.old (carrying kind payload.now))) }
+    {
+        let short = self.allows_short();
+        let mut area = OptWriter::new();
+        let whole = self.report(&mut area);
+        self.send_with(kind, short, &area, payload, out);
+        self.record(whole);
+    }
+
+    // Sends an Ack or a DataAck that has no options except its Ack Vector. Room for one option is quickly cleared.
+    fn send_reporting(&mut self, kind: Kind, payload: &[u8], out: &mut Outbox)
+        requires form { has_forms true kind ≡ true }
+        requires may { may_be_short (packet_type kind) ≡ true }
+        requires short { length payload.now ≤ 1024 }
+        ensures counted { self.new ≡ acknowledged self.old }
+        ensures sent { out.new ≡ Some (next_frame self.old (reporting self.old (carrying kind payload.now))) }
+    {
+        match self.config.vectors {
+            Vectors::One => self.send_one_vector(kind, payload, out),
+            Vectors::Two => self.send_vectors(kind, payload, out),
+        }
+    }
+
     // Sends a DataAck, which has no options except its Ack Vector.
     pub(crate) fn send_data_ack(&mut self, payload: &[u8], out: &mut Outbox)
         requires { length payload.now ≤ 1024 }
@@ -275,11 +361,7 @@ impl Connection {
         ensures sent { out.new ≡ Some (next_frame self.old (reporting self.old (carrying (kind.DataAck (Long self.old.marks.gsr)) payload.now))) }
     {
         let ack = Number::Long(self.marks.gsr);
-        let short = self.allows_short();
-        let mut area = OptWriter::new();
-        let whole = self.report(&mut area);
-        self.send_with(Kind::DataAck { ack }, short, &area, payload, out);
-        self.record(whole);
+        self.send_reporting(Kind::DataAck { ack }, payload, out);
     }
 
     // Sends a Data, which has no options.

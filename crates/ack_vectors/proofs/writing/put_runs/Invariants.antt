@@ -4,10 +4,10 @@ use Rattle.ack_vectors.specs.ByRuns.{bytes_by_runs}
 use Rattle.ack_vectors.proofs.writing.put_runs.Given as goal
 
 abbrev pub invariant-loop-run : goal.invariant-loop-run
-invariant-loop-run l = record {
-  can : (goal.iterator-loop-run).can_next l.run-iterator;
-  finite : (goal.iterator-loop-run).is_finite l.run-iterator;
+invariant-loop-run g l = record {
+  can : (goal.iterator-loop-run g).can_next l.run-iterator;
+  finite : (goal.iterator-loop-run g).is_finite l.run-iterator;
   laid : AreLaid l.floor 2048 l.run-iterator;
   fits : length l.out.items ≤ l.room;
-  joins : l.out.items ++ bytes_by_runs l.floor l.left l.run-iterator ≡ bytes_by_runs l.floor l.fn.left l.fn.runs;
+  joins : l.out.items ++ bytes_by_runs l.floor l.left l.run-iterator ≡ l.fn.out.items ++ bytes_by_runs l.floor l.fn.left l.fn.runs;
 }

@@ -10,7 +10,7 @@ use Rattle.dccp_endpoint.specs.Speaking.{confirm_items}
 use Rattle.dccp_endpoint.proofs.Frames.{fit_beside}
 use Rattle.dccp_endpoint.proofs.Short.{short_ack}
 use Rattle.dccp_endpoint.proofs.Writing.{written_confirms}
-use Rattle.dccp_endpoint.proofs.connection.Connection.send_ack_confirming.Goals as goal
+use Rattle.dccp_endpoint.proofs.connection.Connection.send_ack_with.Goals as goal
 
 -- the options fit into the header
 pub send_with-requires-clause-area : goal.send_with-requires-clause-area
