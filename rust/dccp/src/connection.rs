@@ -829,7 +829,7 @@ impl Connection {
 }
 
 /// Whether a frame is an answer that anybody can cause by a datagram.
-fn is_answer(told: &sys::Told) -> bool {
+pub(crate) fn is_answer(told: &sys::Told) -> bool {
     matches!(told.kind, sys::TOLD_SYNCED | sys::TOLD_SENT_RESET)
 }
 

@@ -1,5 +1,6 @@
 //! A server's connections, one for each peer.
 
+use crate::packets::PacketType;
 use crate::{AcceptOutcome, Config, Connection, Event, MakeError, Phase, Transmit};
 use std::collections::{BTreeMap, VecDeque};
 use std::fmt;
@@ -64,11 +65,6 @@ impl fmt::Debug for Endpoint {
     }
 }
 
-/// Whether a datagram has the type of a Request (RFC 4340, section 5.1).
-fn is_request(datagram: &[u8]) -> bool {
-    datagram.get(8).is_some_and(|it| (it >> 1) & 15 == 0)
-}
-
 impl Endpoint {
     /// A server of at most so many peers at a time. `configure` gives the configuration for a peer that is not known, a
     /// [`Config::server`] with a first number that nobody can guess.
@@ -97,7 +93,9 @@ impl Endpoint {
     ) -> Result<(), MakeError> {
         if let Some(connection) = self.connections.get_mut(&peer) {
             connection.handle_datagram(datagram, now);
-        } else if self.connections.len() < self.most && is_request(datagram) {
+        } else if self.connections.len() < self.most
+            && PacketType::of(datagram) == Some(PacketType::Request)
+        {
             match Connection::accept(&(self.configure)(peer), datagram, now)? {
                 AcceptOutcome::Connection(mut connection)
                     if connection.phase() == Phase::Closed =>

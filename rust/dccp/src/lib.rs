@@ -54,6 +54,7 @@ mod listener;
 mod names;
 pub mod net;
 mod origins;
+mod packets;
 mod rules;
 mod statistics;
 

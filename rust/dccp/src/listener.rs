@@ -1,5 +1,6 @@
 //! A server of many peers by one value of the library.
 
+use crate::connection::is_answer;
 use crate::fates::InFlight;
 use crate::flows::Flows;
 use crate::{
@@ -234,8 +235,8 @@ impl Listener {
             None => Stand::at(&mut self.flows, peer),
         };
         let (status, frame, told) = self.flows.arrive(peer, first_number, datagram, time);
-        let is_answer = matches!(status, sys::BUSY | sys::REFUSED)
-            || matches!(told.kind, sys::TOLD_SYNCED | sys::TOLD_SENT_RESET);
+        let is_refusal = matches!(status, sys::BUSY | sys::REFUSED);
+        let is_answer = is_refusal || is_answer(&told);
         queue(&mut self.frames, peer, frame, is_answer);
         let is = was.after(&told, &mut self.flows, peer);
         if was == Stand::Nothing && is != Stand::Nothing {

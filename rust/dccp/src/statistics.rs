@@ -1,5 +1,6 @@
 //! What a connection has counted.
 
+use crate::packets::{PacketType, header_length};
 use crate::{RoundTrip, sys};
 
 /// Packets that went one way, by their types (RFC 4340, section 5.1).
@@ -21,14 +22,14 @@ pub struct Traffic {
 }
 
 impl Traffic {
-    /// Counts a packet by its type, which is in its ninth byte.
+    /// Counts a packet by its type.
     pub(crate) fn count(&mut self, packet: &[u8]) {
-        match packet.get(8).map(|it| (it >> 1) & 15) {
-            Some(2 | 4) => self.data += 1,
-            Some(3) => self.acks += 1,
-            Some(8 | 9) => self.syncs += 1,
-            Some(7) => self.resets += 1,
-            Some(_) => self.others += 1,
+        match PacketType::of(packet) {
+            Some(PacketType::Data | PacketType::DataAck) => self.data += 1,
+            Some(PacketType::Ack) => self.acks += 1,
+            Some(PacketType::Sync | PacketType::SyncAck) => self.syncs += 1,
+            Some(PacketType::Reset) => self.resets += 1,
+            Some(PacketType::Request | PacketType::Other) => self.others += 1,
             None => {}
         }
     }
@@ -38,9 +39,9 @@ impl Traffic {
     }
 }
 
-/// The data of a packet. The Data Offset, its fifth byte, counts the words before them (RFC 4340, section 5.1).
+/// The data of a packet, which follow its header and options.
 fn data_of(packet: &[u8]) -> &[u8] {
-    let place = packet.get(4).map_or(0, |words| 4 * usize::from(*words));
+    let place = header_length(packet).unwrap_or_default();
     packet.get(place..).unwrap_or_default()
 }
 

@@ -10,6 +10,7 @@ use super::wire::{Batch, Wire};
 use super::{Error, Socket};
 use crate::endpoint::{REFUSED, TOO_BUSY};
 use crate::frames::Frames;
+use crate::packets::{PacketType, header_length};
 use crate::{AcceptOutcome, Config, Connection, CookieKeys, Phase};
 use std::collections::{HashMap, HashSet};
 use std::io;
@@ -94,17 +95,15 @@ fn host_of(peer: SocketAddr) -> IpAddr {
 
 /// The Service Code that a Request asks for (RFC 4340, section 5.1): after the generic header with its long number.
 fn asked_service(datagram: &[u8]) -> Option<u32> {
-    let is_request = datagram.get(8).is_some_and(|it| (it >> 1) & 15 == 0);
     let bytes = datagram.get(16..20)?.try_into().ok()?;
-    is_request.then(|| u32::from_be_bytes(bytes))
+    (PacketType::of(datagram) == Some(PacketType::Request)).then(|| u32::from_be_bytes(bytes))
 }
 
 /// Whether a datagram is an Ack or a DataAck whose options have room for an Init Cookie, at least 34 bytes (RFC 4340, section 5.1).
 fn may_return_cookie(datagram: &[u8]) -> bool {
-    let is_ack = datagram
-        .get(8)
-        .is_some_and(|it| matches!((it >> 1) & 15, 3 | 4));
-    is_ack && datagram.get(4).is_some_and(|it| *it >= 15)
+    let kind = PacketType::of(datagram);
+    matches!(kind, Some(PacketType::Ack | PacketType::DataAck))
+        && header_length(datagram).is_some_and(|it| it >= 60)
 }
 
 impl Driver {
