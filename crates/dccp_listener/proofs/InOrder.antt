@@ -20,6 +20,10 @@ all-after : (first next : Peer) (peers : List Peer) → peer_cmp first next ≡ 
 all-after first next [] is all = tt
 all-after first next (other ∷ peers) is all = (peers_total.trans first next other is all.0, all-after first next peers is all.1)
 
+pub in_order_none : AreInOrder []
+unfolding IsStrictlySortedBy
+in_order_none = tt
+
 -- an entry more stays after a peer
 all-insert-by : (first peer : Peer) (e : FlowEnd) (one : Peer × FlowEnd) (flows : Flows) (o : Ordering) → peer_cmp first peer ≡ Less
     → AllAfter first (keys_of (one ∷ flows)) → AllAfter first (keys_of (insert_entry peer_cmp flows peer e))

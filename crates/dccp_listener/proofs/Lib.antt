@@ -3,6 +3,8 @@ pub mod Numbers
 pub mod Removing
 pub mod Chains
 pub mod InOrder
+pub mod Searching
+pub mod Moving
 pub mod Computing
 pub mod EndsStand
 pub mod Requests

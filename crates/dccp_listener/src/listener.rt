@@ -1,7 +1,7 @@
 //! The listener.
 ghost use Rattle.std.specs.Prelude.{◌≡◌};
 
-use crate::flows::BoxedEnd;
+use crate::flows::FlowTable;
 use crate::meeting::{arrive, greet_packet, perform};
 use crate::{Act, Heard, ListenConfig, NoFlow, Peer};
 use ccid_two::Kinds;
@@ -11,7 +11,6 @@ use dccp_endpoint::{
 };
 use dccp_packets::decode;
 use std::alloc::Global;
-use std::collections::BTreeMap;
 use std::marker::Model;
 
 /// A server that serves many peers at one address and port: each peer gets exactly what an end for it alone would have
@@ -31,15 +30,15 @@ use std::marker::Model;
 ///
 /// # Sizes
 ///
-/// A flow takes the blocks of its end and of its congestion control, about 87 KB, besides an entry of the map: 1,024
-/// take 89 MB. An end is made only if it stays: any other datagram of a peer that has no flow is answered without one,
-/// takes no memory, and costs a look into the map, whose steps grow with the logarithm of the number of flows, whatever
-/// peers an attacker chooses.
+/// A flow takes the blocks of its end and of its congestion control, about 87 KB, besides 16 bytes of a list in the order
+/// of peers: 1,024 take 89 MB. An end is made only if it stays: any other datagram of a peer that has no flow is answered
+/// without one, takes no memory, and costs a binary search of the list, whose steps grow with the logarithm of the number
+/// of flows, whatever peers an attacker chooses. A flow that begins or ends moves the 16 bytes of those after it.
 #[derive(Drop)]
 pub struct Listener {
     alloc: Global,
     config: ListenConfig,
-    flows: BTreeMap<Peer, BoxedEnd>,
+    flows: FlowTable,
 }
 
 impl Model for Listener {
@@ -48,9 +47,9 @@ impl Model for Listener {
 
     ghost Value = { ListenerState };
 
-    ghost view = { λ l. record { config = l.config; flows = l.flows.entries } };
+    ghost view = { λ l. record { config = l.config; flows = l.flows } };
 
-    ghost invariant = { λ l. IsSoundListener l.config l.flows.entries };
+    ghost invariant = { λ l. IsSoundListener l.config l.flows };
 }
 
 impl Listener {
@@ -85,7 +84,7 @@ impl Listener {
         Listener {
             alloc,
             config,
-            flows: BTreeMap::new(alloc),
+            flows: FlowTable::new(alloc),
         }
     }
 
@@ -187,15 +186,19 @@ impl Listener {
         }
     }
 
+    /// The peer's flow is at hand from now on: the next calls for the peer find it without a search.
+    pub fn seek(&mut self, peer: Peer)
+        ensures { self.new ≡ self.old }
+    {
+        self.flows.seek(peer);
+    }
+
     /// A peer's end, or None exactly if it has none. It was made for this peer, and is neither CLOSED nor in LISTEN.
     pub fn flow(&self, peer: Peer) -> Option<&Endpoint<Kinds>>
         ensures value { MatchOption result (end_of_peer self.now.flows peer ≡ None) (λ end. end_of_peer self.now.flows peer ≡ Some end.now) }
         ensures stands { IfSome result (λ end. IsFlowOf self.now.config peer end.now) }
     {
-        match self.flows.get(&peer) {
-            Some(held) => Some(held.end()),
-            None => None,
-        }
+        self.flows.end(peer)
     }
 
     /// Its configuration; its ends make the offers of these lists.
@@ -226,9 +229,6 @@ impl Listener {
         ensures none { IsNone result ↔ (length self.now.flows ≤ place) }
         ensures ordered { AreInOrder self.now.flows }
     {
-        match self.flows.keys().nth(place as usize) {
-            Some(peer) => Some(*peer),
-            None => None,
-        }
+        self.flows.peer(place as usize)
     }
 }

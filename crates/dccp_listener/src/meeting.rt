@@ -1,4 +1,4 @@
-//! The two calls of a listener, over its configuration and its map of flows.
+//! The two calls of a listener, over its configuration and its flows.
 ghost use Rattle.std.specs.Prelude.{◌≡◌, ◌≤◌, ◌+◌, ◌↔◌, None, Ok, IfOk, IsErr, IsTrue, OnErr, false, length};
 ghost use Rattle.ccid_two.specs.Kinds.{at_first, kinds_control};
 ghost use Rattle.dccp_endpoint.specs.Controlled.{begins};
@@ -15,7 +15,7 @@ ghost use Rattle.dccp_listener.specs.Runs.{Stepped, told_of};
 
 use crate::answers::without_memory;
 use crate::config::config_for;
-use crate::flows::{BoxedEnd, act_at, hear_at, put_flow};
+use crate::flows::FlowTable;
 use crate::greeting::{greet, refuse_packet};
 use crate::{Heard, ListenConfig, NoFlow, Peer};
 use ccid_two::Kinds;
@@ -25,38 +25,38 @@ use dccp_endpoint::{
 };
 use dccp_packets::Packet;
 use std::alloc::Global;
-use std::collections::BTreeMap;
 
 // A fresh end hears the datagram, and the peer, which has none, gets it.
 fn admit(
     alloc: Global,
     config: &Config,
-    flows: &mut BTreeMap<Peer, BoxedEnd>,
+    flows: &mut FlowTable,
     peer: Peer,
     packet: &Packet<'_>,
     bytes: &[u8],
     out: &mut Outbox,
 ) -> Result<Outcome, NoMemory>
+    requires none { end_of_peer flows.old peer ≡ None }
     requires empty { out.old ≡ None }
     requires short { length bytes.now ≤ 2044 }
     requires read { decoded bytes.now ≡ Ok (parts_of_packet packet.now) }
     requires options { length packet.now.options.now ≤ 1008 }
-    ensures admitted { IfOk result (λ outcome. IsTakenIn (receiving kinds_control (begins kinds_control config.now at_first) bytes.now) flows.old.entries flows.new.entries peer out.new outcome) }
+    ensures admitted { IfOk result (λ outcome. IsTakenIn (receiving kinds_control (begins kinds_control config.now at_first) bytes.now) flows.old flows.new peer out.new outcome) }
     ensures others { (other : Peer) → is_peer peer other ≡ false
-        → end_of_peer flows.new.entries other ≡ end_of_peer flows.old.entries other }
-    ensures count { length flows.new.entries ≤ length flows.old.entries + 1 }
-    ensures unchanged { OnErr result ((flows.new.entries ≡ flows.old.entries) × (out.new ≡ None)) }
+        → end_of_peer flows.new other ≡ end_of_peer flows.old other }
+    ensures count { length flows.new ≤ length flows.old + 1 }
+    ensures unchanged { OnErr result ((flows.new ≡ flows.old) × (out.new ≡ None)) }
 {
     let (end, outcome) = greet(alloc, config, packet, bytes, out)?;
-    match put_flow(alloc, flows, peer, end) {
+    match flows.open(alloc, peer, end) {
         Ok(()) => Ok(outcome),
         Err(_) => Err(without_memory(out)),
     }
 }
 
 // Whether there are as many flows as the limit allows.
-fn is_full(config: &ListenConfig, flows: &BTreeMap<Peer, BoxedEnd>) -> bool
-    ensures { IsTrue result ↔ (config.now.most ≤ length flows.now.entries) }
+fn is_full(config: &ListenConfig, flows: &FlowTable) -> bool
+    ensures { IsTrue result ↔ (config.now.most ≤ length flows.now) }
 {
     config.most as usize <= flows.len()
 }
@@ -65,21 +65,21 @@ fn is_full(config: &ListenConfig, flows: &BTreeMap<Peer, BoxedEnd>) -> bool
 fn meet(
     alloc: Global,
     config: &ListenConfig,
-    flows: &mut BTreeMap<Peer, BoxedEnd>,
+    flows: &mut FlowTable,
     peer: Peer,
     iss: Seq48,
     packet: &Packet<'_>,
     bytes: &[u8],
     out: &mut Outbox,
 ) -> Result<Heard, NoMemory>
-    requires none { end_of_peer flows.old.entries peer ≡ None }
+    requires none { end_of_peer flows.old peer ≡ None }
     requires empty { out.old ≡ None }
     requires short { length bytes.now ≤ 2044 }
     requires read { decoded bytes.now ≡ Ok (parts_of_packet packet.now) }
     requires options { length packet.now.options.now ≤ 1008 }
-    ensures arrived { Arrived (record { config = config.now; flows = flows.old.entries }) (record { config = config.now; flows = flows.new.entries }) peer iss bytes.now out.new result }
-    ensures listens { IfOk result (λ heard. record { flows = flows.new.entries; frame = out.new; told = told_of (Ok heard) } ≡ listens (record { config = config.now; flows = flows.old.entries }) peer (Arrives iss bytes.now)) }
-    ensures room { length flows.old.entries ≤ config.now.most → length flows.new.entries ≤ config.now.most }
+    ensures arrived { Arrived (record { config = config.now; flows = flows.old }) (record { config = config.now; flows = flows.new }) peer iss bytes.now out.new result }
+    ensures listens { IfOk result (λ heard. record { flows = flows.new; frame = out.new; told = told_of (Ok heard) } ≡ listens (record { config = config.now; flows = flows.old }) peer (Arrives iss bytes.now)) }
+    ensures room { length flows.old ≤ config.now.most → length flows.new ≤ config.now.most }
 {
     let own = config_for(config, peer, iss, packet, bytes);
     if let Some(outcome) = answer_stranger(&own, packet, bytes, out) {
@@ -98,19 +98,19 @@ fn meet(
 pub(crate) fn arrive(
     alloc: Global,
     config: &ListenConfig,
-    flows: &mut BTreeMap<Peer, BoxedEnd>,
+    flows: &mut FlowTable,
     peer: Peer,
     iss: Seq48,
     datagram: &DecodedDatagram<'_>,
     out: &mut Outbox,
 ) -> Result<Heard, NoMemory>
     requires { length datagram.now ≤ 2044 }
-    ensures arrived { Arrived (record { config = config.now; flows = flows.old.entries }) (record { config = config.now; flows = flows.new.entries }) peer iss datagram.now out.new result }
-    ensures listens { IfOk result (λ heard. record { flows = flows.new.entries; frame = out.new; told = told_of (Ok heard) } ≡ listens (record { config = config.now; flows = flows.old.entries }) peer (Arrives iss datagram.now)) }
-    ensures room { length flows.old.entries ≤ config.now.most → length flows.new.entries ≤ config.now.most }
+    ensures arrived { Arrived (record { config = config.now; flows = flows.old }) (record { config = config.now; flows = flows.new }) peer iss datagram.now out.new result }
+    ensures listens { IfOk result (λ heard. record { flows = flows.new; frame = out.new; told = told_of (Ok heard) } ≡ listens (record { config = config.now; flows = flows.old }) peer (Arrives iss datagram.now)) }
+    ensures room { length flows.old ≤ config.now.most → length flows.new ≤ config.now.most }
 {
     out.clear();
-    if let Some(outcome) = hear_at(flows, peer, datagram, out) {
+    if let Some(outcome) = flows.hear(peer, datagram, out) {
         return Ok(Heard::Flow(outcome));
     }
     match datagram.packet() {
@@ -153,20 +153,20 @@ pub(crate) fn greet_packet(
 /// A call of a peer's end. Only the clauses look at the configuration.
 pub(crate) fn perform(
     config: &ListenConfig,
-    flows: &mut BTreeMap<Peer, BoxedEnd>,
+    flows: &mut FlowTable,
     peer: Peer,
     call: UserCall<'_>,
     out: &mut Outbox,
 ) -> Result<Seen, NoFlow>
-    ensures step { IsStep (record { config = config.now; flows = flows.old.entries }) (record { config = config.now; flows = flows.new.entries }) peer (Calls (asked call.entry)) out.new (seen_if result) }
-    ensures listens { record { flows = flows.new.entries; frame = out.new; told = Stepped (seen_if result) } ≡ listens (record { config = config.now; flows = flows.old.entries }) peer (Calls (asked call.entry)) }
-    ensures no_flow { IsErr result ↔ (end_of_peer flows.old.entries peer ≡ None) }
-    ensures refused { OnErr result ((flows.new.entries ≡ flows.old.entries) × (out.new ≡ None)) }
-    ensures count { length flows.new.entries ≤ length flows.old.entries }
+    ensures step { IsStep (record { config = config.now; flows = flows.old }) (record { config = config.now; flows = flows.new }) peer (Calls (asked call.entry)) out.new (seen_if result) }
+    ensures listens { record { flows = flows.new; frame = out.new; told = Stepped (seen_if result) } ≡ listens (record { config = config.now; flows = flows.old }) peer (Calls (asked call.entry)) }
+    ensures no_flow { IsErr result ↔ (end_of_peer flows.old peer ≡ None) }
+    ensures refused { OnErr result ((flows.new ≡ flows.old) × (out.new ≡ None)) }
+    ensures count { length flows.new ≤ length flows.old }
 {
     let _ = config;
     out.clear();
-    match act_at(flows, peer, call, out) {
+    match flows.act(peer, call, out) {
         Some(seen) => Ok(seen),
         None => Err(NoFlow),
     }

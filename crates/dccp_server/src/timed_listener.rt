@@ -214,6 +214,7 @@ impl TimedListener {
     pub(crate) fn seek(&mut self, peer: Peer)
         ensures { self.new ≡ self.old }
     {
+        self.listener.seek(peer);
         self.upkeeps.seek(peer);
     }
 

@@ -1,11 +1,16 @@
-use Rattle.std.proofs.Common.{subst, sym, Option, IfSome}
-use Rattle.dccp_listener.specs.Peers.{FlowEnd, ListenerState}
+use Rattle.std.proofs.Common.{◌≡◌, subst, Option, None, Some, IfSome, MatchOption}
+use Rattle.dccp_listener.specs.Peers.{FlowEnd, ListenerState, end_of_peer}
 use Rattle.dccp_listener.specs.Standing.{IsFlowOf}
 use Rattle.dccp_listener.proofs.listener.Listener.flow.Goals as goal
 
-pub returns-in-Some-clause-stands : goal.returns-in-Some-clause-stands
-returns-in-Some-clause-stands c =
-    let held = subst (λ (x : Option FlowEnd). IfSome x (IsFlowOf c.self.inside.config c.args.peer)) (sym c.in-Some.ensures.value)
-    (c.self.invariant.stand c.args.peer) in
-    let shown = subst (λ (e : FlowEnd). IsFlowOf c.self.inside.config c.args.peer e) (sym c.end.ensures) held in
-    subst (λ (l : ListenerState). IsFlowOf l.config c.args.peer c.end.result.now) c.self.view_is shown
+-- what holds of the end that is found holds of the one that is shown
+shown : {A : Type 0} (now : A → FlowEnd) (P : FlowEnd → Type 0) (held : Option FlowEnd) (result : Option A)
+    → MatchOption result (held ≡ None) (λ end. held ≡ Some (now end)) → IfSome held P → IfSome result (λ end. P (now end))
+shown now P held None is holds = tt
+shown now P held (Some end) is holds = subst (λ (x : Option FlowEnd). IfSome x P) is holds
+
+pub returns-clause-stands : goal.returns-clause-stands
+returns-clause-stands c =
+    shown (λ end. end.now) (IsFlowOf c.args.self.now.config c.args.peer) _ c.end.result c.end.ensures
+    (subst (λ (l : ListenerState). IfSome (end_of_peer c.self.inside.flows c.args.peer) (IsFlowOf l.config c.args.peer)) c.self.view_is
+    (c.self.invariant.stand c.args.peer))

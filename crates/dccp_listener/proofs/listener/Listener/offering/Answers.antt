@@ -6,4 +6,4 @@ use Rattle.dccp_listener.proofs.listener.Listener.offering.Goals as goal
 
 pub invariant_of-result : goal.invariant_of-result
 invariant_of-result c =
-    subst (λ (flows : Flows). IsSoundListener c.args.config flows) (sym c.new.ensures.empty) (sound_fresh c.args.config c.wish-wish.ensures.lists)
+    subst (λ (flows : Flows). IsSoundListener c.args.config flows) (sym c.new.ensures) (sound_fresh c.args.config c.wish-wish.ensures.lists)
