@@ -1,21 +1,15 @@
 //! Which packets of a listener's flows were reported as dropped, and why.
 ghost use Rattle.std.specs.Prelude.{◌≡◌, ◌==◌, ◌&&◌, Some, if◌then◌else◌};
 ghost use Rattle.dccp_listener.specs.Peers.{is_peer};
-ghost use Rattle.dccp_packets.specs.Grammar.{decoded};
-ghost use Rattle.dccp_uses.specs.DropRecord.{packet_recorded, report_recorded};
 ghost use Rattle.dccp_server.specs.FlowDrops.{flow_drop_code, flow_record_after, flow_recorded};
 
 use circular_buffer::HeapCircularBuffer;
-use data_dropped::DropReport;
 use dccp_endpoint::{DecodedDatagram, NoMemory, Seq48};
 use dccp_listener::Peer;
-use dccp_options::options;
-use dccp_uses::{Reader, new_reach};
+use dccp_uses::{DropLog, MOST_DROPS, Reader, record_heard};
 use server_peers::is_peer;
 use std::alloc::Global;
 use std::marker::Model;
-
-const MOST_DROPS: usize = 2048;
 
 /// Data to a peer that were dropped. No call gives one out; contracts speak of them.
 #[derive(Clone, Copy)]
@@ -60,57 +54,8 @@ impl FlowDropRecord {
         Ok(FlowDropRecord { drops })
     }
 
-    // Adds one more drop, which may replace the oldest.
-    fn note(&mut self, peer: Peer, number: Seq48, code: u8)
-        ensures { self.new ≡ flow_recorded peer number code self.old }
-    {
-        self.drops.push_back(FlowDrop { peer, number, code });
-    }
-
-    // The drops that a report is the first to name.
-    fn note_report(
-        &mut self,
-        peer: Peer,
-        counted: Option<Seq48>,
-        ack: Seq48,
-        report: &DropReport<'_>,
-    )
-        requires { report.now.ack ≡ ack }
-        ensures { self.new ≡ report_recorded (flow_recorded peer) counted (Some report.now) self.old }
-    {
-        let mut number = ack;
-        let mut left = new_reach(counted, ack);
-        while 0 < left {
-            if let Some(code) = report.code(number) {
-                self.note(peer, number, code);
-            }
-            number = number.sub(1);
-            left -= 1;
-        }
-    }
-
-    // The drops that a datagram, which reports from this number downwards, is the first to name.
-    fn note_datagram(
-        &mut self,
-        peer: Peer,
-        counted: Option<Seq48>,
-        ack: Seq48,
-        datagram: &DecodedDatagram<'_>,
-    )
-        ensures { self.new ≡ packet_recorded (flow_recorded peer) counted ack (decoded datagram.now) self.old }
-    {
-        let Ok(packet) = datagram.packet() else {
-            return;
-        };
-        let list = options(packet.options, packet.header.kind.packet_type().is_data());
-        if let Some(report) = DropReport::of(ack, list) {
-            self.note_report(peer, counted, ack, &report);
-        }
-    }
-
     /// A peer's flow has heard this datagram. `before` and `after` are what was known of its reader before and after
     /// that (`Path::reader` of its `Upkeep`).
-    #[tactic(auto, using(dccp_uses::proofs::Numbering::nothing_new))]
     pub fn heard(
         &mut self,
         peer: Peer,
@@ -120,13 +65,7 @@ impl FlowDropRecord {
     )
         ensures { self.new ≡ flow_record_after peer before.now.counted after.now.counted datagram.now self.old }
     {
-        let Some(ack) = after.counted else {
-            return;
-        };
-        if new_reach(before.counted, ack) == 0 {
-            return;
-        }
-        self.note_datagram(peer, before.counted, ack, datagram);
+        record_heard(self, peer, before, after, datagram);
     }
 
     /// The Drop Code of the packet to a peer with this number, 0 to 7 (RFC 4340, section 11.7), or None if none is
@@ -135,6 +74,16 @@ impl FlowDropRecord {
         ensures { result ≡ flow_drop_code self.now peer number }
     {
         code_of(&self.drops, peer, number)
+    }
+}
+
+impl DropLog for FlowDropRecord {
+    type Key = Peer;
+
+    ghost recorded = { flow_recorded };
+
+    fn note(&mut self, peer: Peer, number: Seq48, code: u8) {
+        self.drops.push_back(FlowDrop { peer, number, code });
     }
 }
 

@@ -1,5 +1,5 @@
 //! Which packets were reported as dropped, and why.
-ghost use Rattle.std.specs.Prelude.{◌≡◌, ◌==◌, Some, if◌then◌else◌};
+ghost use Rattle.std.specs.Prelude.{◌≡◌, ◌==◌, ℕ, Some, if◌then◌else◌};
 ghost use Rattle.data_dropped.specs.Drops.{drop_code};
 ghost use Rattle.dccp_packets.specs.Grammar.{decoded};
 ghost use Rattle.dccp_uses.specs.DropRecord.{drop_recorded, packet_recorded, record_after, report_recorded};
@@ -13,7 +13,83 @@ use dccp_options::options;
 use std::alloc::Global;
 use std::marker::Model;
 
-const MOST_DROPS: usize = 2048;
+/// How many drops a record keeps (own).
+pub const MOST_DROPS: usize = 2048;
+
+/// A record of packets that were reported as dropped, of one end or of several, each of which has a key (own).
+pub trait DropLog {
+    /// The key of an end.
+    type Key: Copy;
+
+    // A drop of the end with this key is recorded: its number, and its code.
+    ghost recorded: { Self.Key → ℕ → ℕ → Self → Self };
+
+    /// Adds one more drop, which may replace the oldest.
+    fn note(&mut self, key: Self::Key, number: Seq48, code: u8)
+        ensures { self.new ≡ recorded key number code self.old };
+}
+
+// The drops that a report is the first to name.
+fn record_report<L: DropLog>(
+    log: &mut L,
+    key: L::Key,
+    counted: Option<Seq48>,
+    ack: Seq48,
+    report: &DropReport<'_>,
+)
+    requires { report.now.ack ≡ ack }
+    ensures { log.new ≡ report_recorded (L.recorded key) counted (Some report.now) log.old }
+{
+    let mut number = ack;
+    let mut left = new_reach(counted, ack);
+    while 0 < left {
+        if let Some(code) = report.code(number) {
+            log.note(key, number, code);
+        }
+        number = number.sub(1);
+        left -= 1;
+    }
+}
+
+// The drops that a datagram, which reports from this number downwards, is the first to name.
+fn record_datagram<L: DropLog>(
+    log: &mut L,
+    key: L::Key,
+    counted: Option<Seq48>,
+    ack: Seq48,
+    datagram: &DecodedDatagram<'_>,
+)
+    ensures { log.new ≡ packet_recorded (L.recorded key) counted ack (decoded datagram.now) log.old }
+{
+    let Ok(packet) = datagram.packet() else {
+        return;
+    };
+    let list = options(packet.options, packet.header.kind.packet_type().is_data());
+    if let Some(report) = DropReport::of(ack, list) {
+        record_report(log, key, counted, ack, &report);
+    }
+}
+
+/// The end with this key has heard this datagram (RFC 4340, section 11.7). `before` and `after` are what was known of
+/// its reader before and after that (`Path::reader`).
+#[tactic(auto, using(crate::proofs::Numbering::nothing_new))]
+pub fn record_heard<L: DropLog>(
+    log: &mut L,
+    key: L::Key,
+    before: &Reader,
+    after: &Reader,
+    datagram: &DecodedDatagram<'_>,
+)
+    ensures { log.new ≡ record_after (L.recorded key) before.now.counted after.now.counted datagram.now log.old }
+{
+    let Some(ack) = after.counted else {
+        return;
+    };
+    if new_reach(before.counted, ack) == 0 {
+        return;
+    }
+    record_datagram(log, key, before.counted, ack, datagram);
+}
 
 /// The last 2,048 packets that a peer has reported as dropped, and why. The owner of a sender may ask this besides
 /// `Endpoint::stands`, since a packet that was dropped counts there as one that came (RFC 4340, section 11.7; own). The
@@ -48,55 +124,12 @@ impl DropRecord {
         Ok(DropRecord { drops })
     }
 
-    // Adds one more drop, which may replace the oldest.
-    fn note(&mut self, number: Seq48, code: u8)
-        ensures { self.new ≡ drop_recorded number code self.old }
-    {
-        self.drops.push_back(DropEntry { number, code });
-    }
-
-    // The drops that a report is the first to name.
-    fn note_report(&mut self, counted: Option<Seq48>, ack: Seq48, report: &DropReport<'_>)
-        requires { report.now.ack ≡ ack }
-        ensures { self.new ≡ report_recorded drop_recorded counted (Some report.now) self.old }
-    {
-        let mut number = ack;
-        let mut left = new_reach(counted, ack);
-        while 0 < left {
-            if let Some(code) = report.code(number) {
-                self.note(number, code);
-            }
-            number = number.sub(1);
-            left -= 1;
-        }
-    }
-
-    // The drops that a datagram, which reports from this number downwards, is the first to name.
-    fn note_datagram(&mut self, counted: Option<Seq48>, ack: Seq48, datagram: &DecodedDatagram<'_>)
-        ensures { self.new ≡ packet_recorded drop_recorded counted ack (decoded datagram.now) self.old }
-    {
-        let Ok(packet) = datagram.packet() else {
-            return;
-        };
-        let list = options(packet.options, packet.header.kind.packet_type().is_data());
-        if let Some(report) = DropReport::of(ack, list) {
-            self.note_report(counted, ack, &report);
-        }
-    }
-
     /// An end has heard this datagram. `before` and `after` are what was known of its reader before and after that
     /// (`Path::reader`).
-    #[tactic(auto, using(crate::proofs::Numbering::nothing_new))]
     pub fn heard(&mut self, before: &Reader, after: &Reader, datagram: &DecodedDatagram<'_>)
         ensures { self.new ≡ record_after drop_recorded before.now.counted after.now.counted datagram.now self.old }
     {
-        let Some(ack) = after.counted else {
-            return;
-        };
-        if new_reach(before.counted, ack) == 0 {
-            return;
-        }
-        self.note_datagram(before.counted, ack, datagram);
+        record_heard(self, (), before, after, datagram);
     }
 
     /// The Drop Code of the packet with this number, 0 to 7 (RFC 4340, section 11.7), or None if none is recorded. It
@@ -105,6 +138,16 @@ impl DropRecord {
         ensures { result ≡ drop_code self.now number }
     {
         code_of(&self.drops, number)
+    }
+}
+
+impl DropLog for DropRecord {
+    type Key = ();
+
+    ghost recorded = { λ key. drop_recorded };
+
+    fn note(&mut self, _key: (), number: Seq48, code: u8) {
+        self.drops.push_back(DropEntry { number, code });
     }
 }
 
