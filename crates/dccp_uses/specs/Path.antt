@@ -2,7 +2,7 @@
 use Rattle.std.specs.Prelude.{ℕ, ◌-◌, ◌*◌, ◌^◌, ◌==◌, max, min, nat_lt, nat_le, Bool, true, false, not, ◌&&◌, ◌||◌, Option, Some, None, is_some, if◌then◌else◌}
 use Rattle.congestion_trait.specs.Control.{Control}
 use Rattle.dccp_endpoint.specs.Controlled.{End, in_flight_of, window_of}
-use Rattle.dccp_endpoint.specs.End.{held_of}
+use Rattle.dccp_endpoint.specs.End.{held_of, is_open}
 use Rattle.dccp_endpoint.specs.declared.config.Config.{Config}
 use Rattle.dccp_states.specs.declared.calls.Timer.{Timer}
 use Rattle.dccp_states.specs.declared.calls.Timer.TheVariants as timers
@@ -91,18 +91,6 @@ is_handshake phases.Open = false
 is_handshake phases.CloseReq = false
 is_handshake phases.Closing = false
 is_handshake phases.TimeWait = false
-
--- the connection is open
-abbrev pub is_open_phase : Phase → Bool
-is_open_phase phases.Closed = false
-is_open_phase phases.Listen = false
-is_open_phase phases.Request = false
-is_open_phase phases.Respond = false
-is_open_phase phases.PartOpen = false
-is_open_phase phases.Open = true
-is_open_phase phases.CloseReq = false
-is_open_phase phases.Closing = false
-is_open_phase phases.TimeWait = false
 
 -- nothing is being negotiated
 abbrev pub is_stand_stable : Stand → Bool
@@ -210,7 +198,7 @@ aim_of path sight = ack_ratio_aim (window_left path sight) (used_window path (wi
 -- The ratio is asked for under CCID 2, whose rule it is (RFC 4341, section 6.1.2), in OPEN, while it is not being negotiated.
 abbrev pub wants_aim : Path → Sight → ℕ → Bool
 wants_aim path sight now =
-    if not path.pace.moves_ratio || (not (sight.ccid == 2) || (not (is_open_phase sight.phase) || not (is_stand_stable sight.ratio.stand))) then false
+    if not path.pace.moves_ratio || (not (sight.ccid == 2) || (not (is_open sight.phase) || not (is_stand_stable sight.ratio.stand))) then false
     else wants_ack_ratio (record { held = sight.ratio.value; asked = path.asked }) (aim_of path sight) (window_left path sight) (period path.round_trip) now
 
 -- the ratio is then asked for at once
@@ -273,7 +261,7 @@ told_timer path timers.TimeWait sight now = path
 -- In OPEN with data in flight, the peer is asked before a timeout if the window is large, or was asked already.
 abbrev pub is_probing : Path → Sight → Bool
 is_probing path sight =
-    path.pace.probes && (is_open_phase sight.phase && (nat_lt 0 sight.in_flight && (probes_first sight.window || is_some path.probe)))
+    path.pace.probes && (is_open sight.phase && (nat_lt 0 sight.in_flight && (probes_first sight.window || is_some path.probe)))
 
 -- How long an end waits for its peer before it is given up: three minutes in REQUEST (RFC 4340, section 8.1.1), four in
 -- RESPOND (section 8.1.3), two for the answer to a Close, and in between three since it has last taken a packet (own).
@@ -308,7 +296,7 @@ arranged_rules path wait sight now =
     record path {
       probe = kept_if (is_probing path sight) path.probe;
       probing = alarm_after (is_probing path sight) path.probing wait now;
-      silence = alarm_after (path.pace.gives_up && is_open_phase sight.phase) path.silence 60000 now;
+      silence = alarm_after (path.pace.gives_up && is_open sight.phase) path.silence 60000 now;
       give_up = patient_alarm (ruled_patience path.pace sight.phase) path.give_up now;
     }
 

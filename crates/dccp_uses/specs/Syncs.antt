@@ -8,9 +8,7 @@ use Rattle.validity_windows.specs.Verdict.{verdict}
 use Rattle.validity_windows.specs.declared.marks.Marks.{Marks}
 use Rattle.validity_windows.specs.declared.verdict.Verdict.{Verdict}
 use Rattle.validity_windows.specs.declared.verdict.Verdict.TheVariants.{Valid, SyncFor, Drop}
-use Rattle.dccp_endpoint.specs.End.{EndState}
-use Rattle.dccp_states.specs.declared.phase.Phase.{Phase}
-use Rattle.dccp_states.specs.declared.phase.Phase.TheVariants as phases
+use Rattle.dccp_endpoint.specs.End.{EndState, is_live}
 use Rattle.path_rules.specs.Limits.{far_syncs, is_near_greatest, near_syncs, token_taken}
 use Rattle.path_rules.specs.declared.limits.TokenGrant.{TokenGrant}
 use Rattle.dccp_uses.specs.Notice.{no_notice, notice_read}
@@ -18,18 +16,6 @@ use Rattle.dccp_uses.specs.Numbers.{whole_number}
 use Rattle.dccp_uses.specs.declared.notice.Notice.{Notice}
 use Rattle.dccp_uses.specs.declared.path.Path.{Path}
 use Rattle.dccp_uses.specs.declared.reader.Reader.{Reader}
-
--- the windows judge what arrives (section 8.5, steps 5 and 6)
-abbrev pub has_windows : Phase → Bool
-has_windows phases.Closed = false
-has_windows phases.Listen = false
-has_windows phases.Request = false
-has_windows phases.Respond = true
-has_windows phases.PartOpen = true
-has_windows phases.Open = true
-has_windows phases.CloseReq = true
-has_windows phases.Closing = true
-has_windows phases.TimeWait = false
 
 -- the verdict is a Sync
 abbrev pub is_sync_verdict : Verdict → Bool
@@ -51,13 +37,13 @@ abbrev pub number_unanswered : EndState → Result Parts Malformed → Option �
 number_unanswered e (Ok packet) = unanswered e.marks packet.header.kind (whole_number e packet.header.number)
 number_unanswered e (Err fault) = None
 
--- the same for a datagram, if the windows judge it
+-- the same for a datagram, if the windows judge what arrives (section 8.5, steps 5 and 6)
 abbrev pub number_judged : EndState → List ℕ → Option ℕ
-number_judged e bytes = if has_windows e.phase then number_unanswered e (decoded bytes) else None
+number_judged e bytes = if is_live e.phase then number_unanswered e (decoded bytes) else None
 
 -- what it says about the peer's application, if they do
 abbrev pub notice_judged : EndState → Reader → List ℕ → Notice
-notice_judged e reader bytes = if has_windows e.phase then notice_read e reader (decoded bytes) else no_notice
+notice_judged e reader bytes = if is_live e.phase then notice_read e reader (decoded bytes) else no_notice
 
 -- whether a datagram is heard, and what is kept of the path then
 pub record Admission : Type 0 where

@@ -1,13 +1,14 @@
 //! What the owner of an end reads in a datagram before its end hears it.
 ghost use Rattle.std.specs.Prelude.{◌≡◌};
 ghost use Rattle.dccp_endpoint.specs.Congesting.{reported_from};
+ghost use Rattle.dccp_endpoint.specs.End.{is_live};
 ghost use Rattle.dccp_endpoint.specs.Incoming.{parts_of_packet};
 ghost use Rattle.dccp_packets.specs.Forms.{ack_near};
 ghost use Rattle.dccp_packets.specs.Grammar.{decoded, packet_type};
 ghost use Rattle.validity_windows.specs.Windows.{InRange};
 ghost use Rattle.dccp_uses.specs.Notice.{notice_read, report_base};
 ghost use Rattle.dccp_uses.specs.Numbers.{whole_number};
-ghost use Rattle.dccp_uses.specs.Syncs.{has_windows, notice_judged, number_judged, number_unanswered, unanswered};
+ghost use Rattle.dccp_uses.specs.Syncs.{notice_judged, number_judged, number_unanswered, unanswered};
 
 use crate::notice::notice_of;
 use crate::{Notice, Reader};
@@ -36,8 +37,8 @@ struct Placement {
 }
 
 // The phases in which the windows judge what arrives.
-fn has_windows(phase: Phase) -> bool
-    ensures { result ≡ has_windows phase }
+fn is_live(phase: Phase) -> bool
+    ensures { result ≡ is_live phase }
 {
     matches!(
         phase,
@@ -136,7 +137,7 @@ pub(crate) fn judge<C: Congestion>(
     ensures number { result.number ≡ number_judged end.now.state datagram.now }
     ensures notice { result.notice ≡ notice_judged end.now.state reader.now datagram.now }
 {
-    if has_windows(end.phase()) {
+    if is_live(end.phase()) {
         read(end, reader, datagram)
     } else {
         Judgement {

@@ -4,7 +4,7 @@ ghost use Rattle.dccp_uses.specs.Alarms.{alarm_after, starting_wait_by};
 ghost use Rattle.dccp_uses.specs.Path.{acked_sample, aim_of, aimed, answered_probe, arranged_path, arranged_rules, by_rule, data_timed, either_of, fell, first_sent, flown, handshake_over, handshake_timed, heard_from, notice_heeded, is_answered, is_probing, kept_if, measured, path_begins, path_heard, path_waits, patience, patient_alarm, rules_alarm, rules_left, ruled_patience, sampled_if, sent_unless, since_sent, timed_out_path, told_timer, none_timed, used_window, wants_aim, window_left, with_flight};
 
 use crate::alarms::{Alarm, Alarms, alarm_for, arrange_alarm, sooner, starting_wait};
-use crate::sight::{is_handshake, is_open_phase, is_stand_stable};
+use crate::sight::{is_handshake, is_open, is_stand_stable};
 use crate::{Notice, Pace, Reader, Sight, Waits};
 use dccp_endpoint::{Phase, Seq48, Timer};
 use path_rules::{
@@ -281,7 +281,7 @@ impl Path {
     {
         if !self.pace.moves_ratio
             || sight.ccid != 2
-            || !is_open_phase(sight.phase)
+            || !is_open(sight.phase)
             || !is_stand_stable(sight.ratio.stand)
         {
             return false;
@@ -449,7 +449,7 @@ impl Path {
         ensures { result ≡ is_probing self.now sight.now }
     {
         self.pace.probes
-            && is_open_phase(sight.phase)
+            && is_open(sight.phase)
             && 0 < sight.in_flight
             && (probes_first(sight.window) || self.probe.is_some())
     }
@@ -474,7 +474,7 @@ impl Path {
         ensures { self.new ≡ arranged_rules self.old (starting_wait_by (path_waits self.old) alarms.now timers.Rto) sight.now now }
     {
         let probing = self.is_probing(sight);
-        let silent = self.pace.gives_up && is_open_phase(sight.phase);
+        let silent = self.pace.gives_up && is_open(sight.phase);
         let patience = ruled_patience(&self.pace, sight.phase);
         self.arrange_probing(probing, alarms, now);
         arrange_alarm(&mut self.silence, silent, 60_000, now);

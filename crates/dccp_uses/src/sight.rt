@@ -1,6 +1,7 @@
 //! What the rules of a path see of an end.
 ghost use Rattle.std.specs.Prelude.{◌≡◌};
-ghost use Rattle.dccp_uses.specs.Path.{is_handshake, is_open_phase, is_stand_stable, sight_of};
+ghost use Rattle.dccp_endpoint.specs.End.{is_open};
+ghost use Rattle.dccp_uses.specs.Path.{is_handshake, is_stand_stable, sight_of};
 
 use dccp_endpoint::{Congestion, Endpoint, Feature, Held, Phase, Place, Seq48, Stand};
 
@@ -54,8 +55,8 @@ pub(crate) fn is_handshake(phase: Phase) -> bool
     matches!(phase, Phase::Request | Phase::Respond)
 }
 
-pub(crate) fn is_open_phase(phase: Phase) -> bool
-    ensures { result ≡ is_open_phase phase }
+pub(crate) fn is_open(phase: Phase) -> bool
+    ensures { result ≡ is_open phase }
 {
     matches!(phase, Phase::Open)
 }

@@ -5,14 +5,15 @@ use Rattle.std.proofs.Common.{◌≡◌, refl, ℕ, true, false, List, ◌∷◌
 use Rattle.data_dropped.specs.Drops.{drop_code}
 use Rattle.data_dropped.specs.declared.drops.DropEntry.{DropEntry}
 use Rattle.dccp_endpoint.specs.Calling.{opens}
+use Rattle.dccp_endpoint.specs.End.{is_live, is_open}
 use Rattle.dccp_endpoint.specs.Receiving.{receives}
 use Rattle.dccp_states.specs.declared.phase.Phase.TheVariants as phases
 use Rattle.validity_windows.specs.declared.verdict.Verdict.TheVariants.{Drop, SyncFor, Valid}
 use Rattle.dccp_uses.specs.DropRecord.{drop_recorded}
 use Rattle.dccp_uses.specs.Notice.{no_drops, no_notice}
-use Rattle.dccp_uses.specs.Path.{classic_pace, is_handshake, is_open_phase, is_probing, path_begins, patience, usual_pace}
+use Rattle.dccp_uses.specs.Path.{classic_pace, is_handshake, is_probing, path_begins, patience, usual_pace}
 use Rattle.dccp_uses.specs.Reader.{asks_slower, reader_begins}
-use Rattle.dccp_uses.specs.Syncs.{admitted_by, admitted_within, has_windows, is_sync_verdict, notice_judged, noticed_if}
+use Rattle.dccp_uses.specs.Syncs.{admitted_by, admitted_within, is_sync_verdict, notice_judged, noticed_if}
 use Rattle.dccp_uses.specs.Upkeeps.{ruled_condition}
 use Rattle.dccp_uses.specs.declared.notice.Notice.{Notice}
 use Rattle.dccp_uses.specs.declared.path.Path.{Path}
@@ -38,16 +39,16 @@ phases_of_a_handshake :
     (is_handshake phases.Closed ≡ false) × (is_handshake phases.Listen ≡ false) × (is_handshake phases.Request ≡ true) × (is_handshake phases.Respond ≡ true)
     × (is_handshake phases.PartOpen ≡ false) × (is_handshake phases.Open ≡ false) × (is_handshake phases.CloseReq ≡ false)
     × (is_handshake phases.Closing ≡ false) × (is_handshake phases.TimeWait ≡ false)
-    × (is_open_phase phases.Closed ≡ false) × (is_open_phase phases.Listen ≡ false) × (is_open_phase phases.Request ≡ false)
-    × (is_open_phase phases.Respond ≡ false) × (is_open_phase phases.PartOpen ≡ false) × (is_open_phase phases.Open ≡ true)
-    × (is_open_phase phases.CloseReq ≡ false) × (is_open_phase phases.Closing ≡ false) × (is_open_phase phases.TimeWait ≡ false)
+    × (is_open phases.Closed ≡ false) × (is_open phases.Listen ≡ false) × (is_open phases.Request ≡ false)
+    × (is_open phases.Respond ≡ false) × (is_open phases.PartOpen ≡ false) × (is_open phases.Open ≡ true)
+    × (is_open phases.CloseReq ≡ false) × (is_open phases.Closing ≡ false) × (is_open phases.TimeWait ≡ false)
 phases_of_a_handshake = (refl, refl, refl, refl, refl, refl, refl, refl, refl, refl, refl, refl, refl, refl, refl, refl, refl, refl)
 
 -- RESPOND to CLOSING; and of the three verdicts one is a Sync
 phases_with_windows :
-    (has_windows phases.Closed ≡ false) × (has_windows phases.Listen ≡ false) × (has_windows phases.Request ≡ false) × (has_windows phases.Respond ≡ true)
-    × (has_windows phases.PartOpen ≡ true) × (has_windows phases.Open ≡ true) × (has_windows phases.CloseReq ≡ true) × (has_windows phases.Closing ≡ true)
-    × (has_windows phases.TimeWait ≡ false)
+    (is_live phases.Closed ≡ false) × (is_live phases.Listen ≡ false) × (is_live phases.Request ≡ false) × (is_live phases.Respond ≡ true)
+    × (is_live phases.PartOpen ≡ true) × (is_live phases.Open ≡ true) × (is_live phases.CloseReq ≡ true) × (is_live phases.Closing ≡ true)
+    × (is_live phases.TimeWait ≡ false)
     × (is_sync_verdict Valid ≡ false) × (is_sync_verdict (SyncFor 7) ≡ true) × (is_sync_verdict Drop ≡ false)
 phases_with_windows = (refl, refl, refl, refl, refl, refl, refl, refl, refl, refl, refl, refl)
 
