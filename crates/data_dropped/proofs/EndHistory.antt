@@ -1,5 +1,6 @@
 -- The calls of an end with an inbox are calls of the inbox.
 use Rattle.std.proofs.Common.{◌≡◌, ℕ, ◌||◌, Bool, true, false, List, [], ◌∷◌, Some, None, refl, ap, sym, subst, append-nil}
+use Rattle.std.proofs.Math.Bool.{or-false, or_assoc}
 use Rattle.std.specs.Prelude.{slice_range}
 use Rattle.std.specs.List.{list_any}
 use Rattle.congestion_trait.specs.Control.{Control}
@@ -79,10 +80,6 @@ module _ {C : Type 0} (control : Control C) where
   none-stops held n bytes (WasReset code) = refl
   none-stops held n bytes (SentReset code detail) = refl
 
-  or-false : (b : Bool) → (b || false) ≡ b
-  or-false true = refl
-  or-false false = refl
-
   after-accounted : (capacity : ℕ) (stopped : Bool) (p : BufferedPast C) (call : EndCall) → IsAccounted capacity stopped p.past
       → IsAccounted capacity (stopped || is_end_stop call) (past_after control p call).past
   after-accounted capacity stopped p (EndCalls given) before = subst (λ (b : Bool). IsAccounted capacity b p.past) (sym (or-false stopped)) before
@@ -94,16 +91,12 @@ module _ {C : Type 0} (control : Control C) where
   after-accounted capacity stopped p EndTakes before = history_after-accounted capacity stopped p.past Takes before
   after-accounted capacity stopped p EndStops before = history_after-accounted capacity stopped p.past Stops before
 
-  or-assoc : (a b c : Bool) → ((a || b) || c) ≡ (a || (b || c))
-  or-assoc true b c = refl
-  or-assoc false b c = refl
-
   pub past-accounted : (capacity : ℕ) (stopped : Bool) (p : BufferedPast C) (calls : List EndCall) → IsAccounted capacity stopped p.past
       → IsAccounted capacity (stopped || list_any is_end_stop calls) (past_all control p calls).past
   past-accounted capacity stopped p [] before = subst (λ (b : Bool). IsAccounted capacity b p.past) (sym (or-false stopped)) before
   past-accounted capacity stopped p (call ∷ calls) before =
       subst (λ (b : Bool). IsAccounted capacity b (past_all control (past_after control p call) calls).past)
-      (or-assoc stopped (is_end_stop call) (list_any is_end_stop calls))
+      (or_assoc stopped (is_end_stop call) (list_any is_end_stop calls))
       (past-accounted capacity (stopped || is_end_stop call) (past_after control p call) calls (after-accounted capacity stopped p call before))
 
   pub every-past : (config : Config) (congestion : C) (capacity : ℕ) (calls : List EndCall)

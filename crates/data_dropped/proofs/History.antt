@@ -1,5 +1,6 @@
 -- What holds of an inbox after a list of calls: of one call by cases, and of all by induction.
 use Rattle.std.proofs.Common.{◌≡◌, ℕ, ◌+◌, ◌-◌, ◌<◌, not, ◌||◌, nat_lt, Bool, true, false, List, [], ◌∷◌, ◌++◌, length, take, drop, refl, ap, sym, subst, ◌∙◌, arith, append_assoc, append-nil, length-append, length-drop}
+use Rattle.std.proofs.Math.Bool.{or-false, or-true, or_assoc}
 use Rattle.std.specs.List.{list_any}
 use Rattle.std.proofs.lemmas.Bool.{and_parts, ltb-true}
 use Rattle.std.proofs.lemmas.List.{drop-append-le, drop-drop, take-append-drop}
@@ -88,14 +89,6 @@ stopped-accounted capacity stopped h before =
       codes = before.codes;
     }
 
-or-false : (b : Bool) → (b || false) ≡ b
-or-false true = refl
-or-false false = refl
-
-or-true : (b : Bool) → (b || true) ≡ true
-or-true true = refl
-or-true false = refl
-
 -- one call
 pub history_after-accounted : (capacity : ℕ) (stopped : Bool) (h : History) (call : InboxCall) → IsAccounted capacity stopped h
     → IsAccounted capacity (stopped || is_stop call) (history_after h call)
@@ -110,16 +103,12 @@ history_after-accounted capacity stopped h Takes before =
 history_after-accounted capacity stopped h Stops before =
     subst (λ (b : Bool). IsAccounted capacity b (history_after h Stops)) (sym (or-true stopped)) (stopped-accounted capacity stopped h before)
 
-or-assoc : (a b c : Bool) → ((a || b) || c) ≡ (a || (b || c))
-or-assoc true b c = refl
-or-assoc false b c = refl
-
 -- all calls
 pub all-accounted : (capacity : ℕ) (stopped : Bool) (h : History) (calls : List InboxCall) → IsAccounted capacity stopped h
     → IsAccounted capacity (stopped || list_any is_stop calls) (history_after_all h calls)
 all-accounted capacity stopped h [] before = subst (λ (b : Bool). IsAccounted capacity b h) (sym (or-false stopped)) before
 all-accounted capacity stopped h (call ∷ calls) before =
-    subst (λ (b : Bool). IsAccounted capacity b (history_after_all (history_after h call) calls)) (or-assoc stopped (is_stop call) (list_any is_stop calls))
+    subst (λ (b : Bool). IsAccounted capacity b (history_after_all (history_after h call) calls)) (or_assoc stopped (is_stop call) (list_any is_stop calls))
     (all-accounted capacity (stopped || is_stop call) (history_after h call) calls (history_after-accounted capacity stopped h call before))
 
 pub first-accounted : (capacity : ℕ) → IsAccounted capacity false (no_history capacity)

@@ -15,7 +15,8 @@ abbrev bytes_given : Input → List ℕ
 bytes_given (Arrives bytes) = bytes
 bytes_given _ = []
 
-abbrev IsWithin : List ℕ → ℕ × ℕ → Type 0
+-- the place lies within the bytes
+abbrev pub IsWithin : List ℕ → ℕ × ℕ → Type 0
 IsWithin bytes place = (place.0 ≤ place.1) × (place.1 ≤ length bytes)
 
 came-within : (e : EndState) (bytes : List ℕ) (a : Incoming) → Came e (Arrives bytes) a → IsWithin bytes a.data_place

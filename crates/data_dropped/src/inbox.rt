@@ -8,10 +8,11 @@ use seq_circle::{NoMemory, Seq48};
 use std::alloc::Global;
 use std::marker::Model;
 
-// Drop Codes (RFC 4340, section 11.7).
-const NOT_LISTENING: u8 = 1;
+/// The Drop Code of data for which no application listens any more (RFC 4340, section 11.7).
+pub const DROP_NOT_LISTENING: u8 = 1;
 
-const BUFFER_FULL: u8 = 2;
+/// The Drop Code of data for which the receive buffer has no room (RFC 4340, section 11.7).
+pub const DROP_BUFFER_FULL: u8 = 2;
 
 /// The data of packets that an application has not read yet, at most `capacity` of them with up to `MOST` bytes each,
 /// and the last 2,048 drops. It drops what arrives while it is full or after `stop`, and never what it holds. Contracts
@@ -80,9 +81,9 @@ impl<const MOST: usize> BoundedInbox<MOST> {
         ensures { result ≡ reason self.now }
     {
         if self.stopped {
-            NOT_LISTENING
+            DROP_NOT_LISTENING
         } else {
-            BUFFER_FULL
+            DROP_BUFFER_FULL
         }
     }
 

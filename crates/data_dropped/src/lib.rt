@@ -23,7 +23,7 @@ mod writing;
 pub use crate::answers::{Arrival, Got};
 pub use crate::buffered_end::BufferedEnd;
 pub use crate::drops::{DropBytes, DropEntry};
-pub use crate::inbox::{BoundedInbox, Inbox, LongInbox};
+pub use crate::inbox::{BoundedInbox, DROP_BUFFER_FULL, DROP_NOT_LISTENING, Inbox, LongInbox};
 pub use crate::intake::Intake;
 pub use crate::laws::{
     a_frame_is_read_as_its_drops, a_report_of_drops_reads_back, every_frame_tells_its_drops,

@@ -16,14 +16,10 @@ use Rattle.data_dropped.specs.Intakes.{HasDataIfHeard}
 use Rattle.data_dropped.specs.declared.answers.Arrival.{Arrival}
 use Rattle.data_dropped.specs.declared.answers.Arrival.TheVariants.{Kept}
 use Rattle.data_dropped.specs.declared.answers.Arrival.TheVariants as arrivals
-use Rattle.data_dropped.proofs.Places.{data_within}
+use Rattle.data_dropped.proofs.Places.{IsWithin, data_within}
 use Rattle.dccp_uses.specs.Sessions.{news_if, news_kept}
 use Rattle.dccp_uses.specs.declared.news.News.{News}
 use Rattle.dccp_uses.specs.declared.news.News.TheVariants as news
-
--- the place lies within the bytes
-abbrev pub IsWithin : List ℕ → ℕ × ℕ → Type 0
-IsWithin bytes place = (place.0 ≤ place.1) × (place.1 ≤ length bytes)
 
 incoming-within : (e : EndState) (bytes : List ℕ) (p : Parts) (number : ℕ) → IsWithin bytes (incoming e bytes p number).data_place
 incoming-within e bytes p number = (omega arith, omega arith)

@@ -6,7 +6,7 @@ ghost use Rattle.data_dropped.specs.Reports.{drop_options};
 ghost use Rattle.dccp_uses.specs.Notice.{drops_told, is_as_marked, is_code, is_slow_option, new_reach, no_drops, no_notice, notice_of, drops_with_code};
 
 use crate::Reader;
-use data_dropped::DropReport;
+use data_dropped::{DROP_BUFFER_FULL, DROP_NOT_LISTENING, DropReport};
 use dccp_endpoint::Seq48;
 use dccp_options::OptList;
 use dccp_options::kinds::{DATA_DROPPED, SLOW_RECEIVER};
@@ -14,13 +14,9 @@ use dccp_options::kinds::{DATA_DROPPED, SLOW_RECEIVER};
 /// For how many numbers a first report of drops is read, from its acknowledgement number down (own).
 const MOST_NUMBERS: u64 = 2048;
 
-// The Drop Codes (RFC 4340, section 11.7): the protocol allowed no data there; no application listens; no room in the
-// receive buffer; and the first of those that count as ECN marks.
+// Further Drop Codes (RFC 4340, section 11.7): the protocol allowed no data there; and the first of those that count as
+// ECN marks.
 const PROTOCOL: u8 = 0;
-
-const NOT_LISTENING: u8 = 1;
-
-const BUFFER_FULL: u8 = 2;
 
 const CORRUPT: u8 = 3;
 
@@ -121,9 +117,9 @@ impl Drops {
         ensures { result ≡ drops_with_code self.now past code }
     {
         Drops {
-            full: self.full + u32::from(is_code(BUFFER_FULL, code)),
+            full: self.full + u32::from(is_code(DROP_BUFFER_FULL, code)),
             refused: self.refused || is_code(PROTOCOL, code),
-            stopped: self.stopped || is_code(NOT_LISTENING, code),
+            stopped: self.stopped || is_code(DROP_NOT_LISTENING, code),
             marked: self.marked || past && is_as_marked(code),
         }
     }
