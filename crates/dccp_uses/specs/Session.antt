@@ -1,13 +1,12 @@
 -- An end with the timers that its owner keeps for it (own; the end is that of RFC 4340).
 use Rattle.dccp_states.specs.Phases.{is_closed}
-use Rattle.std.specs.Prelude.{nat_lt, nat_le, ℕ, Bool, true, false, not, ◌&&◌, List, [], ◌∷◌, length, Option, Some, None, is_some, Result, Ok, Err, if◌then◌else◌}
+use Rattle.std.specs.Prelude.{nat_lt, nat_le, ℕ, Bool, true, false, not, ◌&&◌, List, length, Option, Some, None, is_some, Result, Ok, Err, if◌then◌else◌}
 use Rattle.congestion_trait.specs.Control.{Control}
 use Rattle.dccp_packets.specs.Outgoing.{Outgoing}
 use Rattle.dccp_endpoint.specs.Calling.{fires}
 use Rattle.dccp_endpoint.specs.Controlled.{End, EndStep, begins, has_in_flight, in_flight_of, with_control}
 use Rattle.dccp_endpoint.specs.Receiving.{receives}
 use Rattle.dccp_states.specs.declared.calls.Timer.{Timer}
-use Rattle.dccp_states.specs.declared.calls.Timer.TheVariants as timers
 use Rattle.dccp_endpoint.specs.declared.config.Config.{Config}
 use Rattle.dccp_states.specs.declared.outcome.Outcome.{Outcome}
 use Rattle.dccp_states.specs.declared.outcome.Outcome.TheVariants.{Took, Dropped, Synced, WasReset, SentReset}
@@ -123,10 +122,6 @@ tells_end control now s timer =
 abbrev pub rings : {C : Type 0} → Control C → ℕ → SessionState C → Timer → SessionStep C Bool
 rings control now s timer =
     if has_run_out (alarm_of s.alarms timer) now then tells_end control now s timer else record { session = s; frame = None; answer = false }
-
--- the six timers of an end, in the order in which they are looked at
-abbrev pub every_timer : List Timer
-every_timer = timers.Request ∷ timers.Ack ∷ timers.Negotiate ∷ timers.Rto ∷ timers.Close ∷ timers.TimeWait ∷ []
 
 -- A server's end for a peer that has heard its first datagram is a connection if it has left LISTEN.
 abbrev pub is_listening : Phase → Bool

@@ -5,7 +5,7 @@ ghost use Rattle.dccp_uses.specs.Path.{path_waits};
 ghost use Rattle.dccp_uses.specs.Upkeeps.{acks_now};
 
 use crate::{Path, Waits};
-use dccp_endpoint::{Congestion, Endpoint, Phase, Timer, applies_in};
+use dccp_endpoint::{Phase, Timer, applies_in};
 use path_rules::Wait;
 
 /// A timer that runs: since when, and for how long.
@@ -33,20 +33,6 @@ pub struct Condition {
     pub phase: Phase,
     /// Whether data packets are in flight.
     pub in_flight: bool,
-}
-
-impl Condition {
-    ghost use Rattle.dccp_uses.specs.Session.{condition_of};
-
-    /// The present condition of this end (own).
-    pub fn of<C: Congestion>(end: &Endpoint<C>) -> Condition
-        ensures { result ≡ condition_of C.control end.now }
-    {
-        Condition {
-            phase: end.phase(),
-            in_flight: 0 < end.in_flight(),
-        }
-    }
 }
 
 /// The timers that run for an end, of the six that it has: six fields and not a list, so that a call takes no memory.

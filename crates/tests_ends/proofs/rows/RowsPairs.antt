@@ -8,12 +8,12 @@ use Rattle.congestion_trait.specs.Control.{Control, may_send}
 use Rattle.dccp_endpoint.specs.Controlled.{in_flight_of, window_of, with_control}
 use Rattle.dccp_endpoint.specs.Usual.{usual}
 use Rattle.dccp_states.specs.declared.calls.Timer.{Timer}
+use Rattle.dccp_states.specs.declared.calls.Timer.TheVariants as timers
 use Rattle.dccp_states.specs.declared.phase.Phase.{Phase}
 use Rattle.dccp_states.specs.declared.phase.Phase.TheVariants as phase
 use Rattle.dccp_states.specs.declared.phase.Role.TheVariants.{Client, Server}
 use Rattle.dccp_uses.specs.Alarms.{alarm_of, has_run_out, until_first}
 use Rattle.dccp_uses.specs.Path.{classic_pace}
-use Rattle.dccp_uses.specs.Session.{every_timer}
 use Rattle.dccp_uses.specs.Holding.{HoldingState, HoldingStep, without_inbox}
 use Rattle.dccp_uses.specs.Sessions.{HoldingSteps, holding_hears, rings_each_due, session_accepted, session_hears}
 use Rattle.dccp_uses.specs.Timed.{TimedState, TimedStep, timed_begins, timed_closes, timed_opens, timed_sends}
@@ -105,7 +105,9 @@ client_takes control p (datagram ∷ rest) = client_hears control (record p { to
 
 -- some timer has run out
 abbrev pub is_due : ℕ → Alarms → Bool
-is_due now alarms = list_any (λ timer. has_run_out (alarm_of alarms timer) now) every_timer
+is_due now alarms =
+    list_any (λ timer. has_run_out (alarm_of alarms timer) now)
+    (timers.Request ∷ timers.Ack ∷ timers.Negotiate ∷ timers.Rto ∷ timers.Close ∷ timers.TimeWait ∷ [])
 
 -- The timers of both get the time. Where none has run out nothing comes of it.
 abbrev pub client_rang : {C : Type 0} → Pair C → HoldingSteps C → Pair C
