@@ -4,12 +4,12 @@ ghost use Rattle.dccp_listener.specs.Chain.{asked};
 ghost use Rattle.dccp_listener.specs.Calls.{seen_if};
 ghost use Rattle.dccp_listener.specs.Runs.{Stepped, told_of};
 ghost use Rattle.dccp_server.specs.Serving.{is_refusal};
-ghost use Rattle.dccp_server.specs.Upkeeps.{arrived_so, called_so, call_happening, next_upkeep, tells_data, tells_taken};
+ghost use Rattle.dccp_server.specs.Upkeeps.{arrived_so, called_so, call_happening, next_upkeep};
 
 use ccid_two::Kinds;
 use dccp_endpoint::{Endpoint, Seen, Timer, UserCall};
 use dccp_listener::{Heard, NoFlow};
-use dccp_uses::{HeardDatagram, Pace, Rule, Sight, Upkeep, is_delivery, is_taken};
+use dccp_uses::{HeardDatagram, Pace, Rule, Sight, Upkeep};
 
 /// What happened to a flow's end.
 #[derive(Clone, Copy)]
@@ -34,40 +34,23 @@ pub enum FlowHappening {
     Ruled(Rule),
 }
 
-fn tells_taken(heard: &Heard) -> bool
-    ensures { result ≡ tells_taken (told_of (Ok heard.now)) }
-{
-    match heard {
-        Heard::Flow(outcome) => is_taken(outcome),
-        Heard::Busy => false,
-    }
-}
-
-fn tells_data(heard: &Heard) -> bool
-    ensures { result ≡ tells_data (told_of (Ok heard.now)) }
-{
-    match heard {
-        Heard::Flow(outcome) => is_delivery(outcome),
-        Heard::Busy => false,
-    }
-}
-
 /// A datagram was heard, by an end of which the rules saw `was` before, if there was one. `silent` says whether nothing
 /// went out.
 pub(crate) fn arrived_so(was: Option<Sight>, heard: &Heard, silent: bool) -> FlowHappening
     ensures { result ≡ arrived_so was (told_of (Ok heard.now)) silent }
 {
-    let taken = tells_taken(heard);
-    let delivered = tells_data(heard);
-    match was {
-        None => FlowHappening::Opened,
-        Some(was) => FlowHappening::Heard(HeardDatagram {
+    let Some(was) = was else {
+        return FlowHappening::Opened;
+    };
+    FlowHappening::Heard(match heard {
+        Heard::Flow(outcome) => HeardDatagram::new(was, outcome, silent),
+        Heard::Busy => HeardDatagram {
             was,
-            taken,
-            delivered,
+            taken: false,
+            delivered: false,
             silent,
-        }),
-    }
+        },
+    })
 }
 
 // A call that was not refused.

@@ -1,5 +1,5 @@
 //! The calls of a listener, with what is kept of its flows.
-ghost use Rattle.std.specs.Prelude.{◌≡◌, ◌≤◌, [], ◌∷◌, None, Ok, IfOk, OnOk, OnErr, IsSome, is_some, not, length};
+ghost use Rattle.std.specs.Prelude.{◌≡◌, ◌≤◌, [], ◌∷◌, None, Ok, IfOk, OnOk, OnErr, IsSome, length};
 ghost use Rattle.std.specs.BTreeMap.{insert_entry};
 ghost use Rattle.std.specs.Map.{lookup};
 ghost use Rattle.dccp_listener.specs.Calls.{seen_if};
@@ -30,12 +30,6 @@ pub(crate) fn sight_at(listener: &Listener, peer: Peer) -> Option<Sight>
         Some(end) => Some(Sight::of(end)),
         None => None,
     }
-}
-
-pub(crate) fn is_silent(out: &Outbox) -> bool
-    ensures { result ≡ not (is_some out.now) }
-{
-    out.frame().is_none()
 }
 
 /// What is kept of a peer.

@@ -3,12 +3,12 @@ ghost use Rattle.std.specs.Prelude.{◌≡◌};
 
 use crate::happening::{FlowHappening, arrived_so, called_so};
 use crate::serving::{
-    arrange, ask, count, due_of_flow, hear, is_silent, obey_at, place, sight_at, soonest, upkeep_at,
+    arrange, ask, count, due_of_flow, hear, obey_at, place, sight_at, soonest, upkeep_at,
 };
 use ccid_two::Kinds;
 use dccp_endpoint::{DecodedDatagram, Endpoint, NoMemory, Outbox, Outcome, Seen, Seq48, UserCall};
 use dccp_listener::{Heard, ListenConfig, Listener, NoFlow, Peer};
-use dccp_uses::{Due, Pace, Reader, Upkeep, admit, due_rule};
+use dccp_uses::{Due, Pace, Reader, Upkeep, admit, due_rule, is_silent};
 use server_peers::Register;
 use std::alloc::Global;
 use std::marker::Model;

@@ -76,7 +76,7 @@ pub(crate) fn news_kept(arrival: Option<Arrival>, told: News) -> News
 }
 
 /// Whether the outcome brought data.
-pub fn is_delivery(outcome: &Outcome) -> bool
+pub(crate) fn is_delivery(outcome: &Outcome) -> bool
     ensures { result ≡ is_delivery outcome.now }
 {
     match *outcome {

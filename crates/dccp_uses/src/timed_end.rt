@@ -39,7 +39,8 @@ impl<C> Model for TimedEnd<C> {
     ghost view = { λ s. record { end = s.end; upkeep = s.upkeep } };
 }
 
-fn is_silent(out: &Outbox) -> bool
+/// Whether no frame waits here (own).
+pub fn is_silent(out: &Outbox) -> bool
     ensures { result ≡ not (is_some out.now) }
 {
     out.frame().is_none()
