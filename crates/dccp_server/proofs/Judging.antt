@@ -14,7 +14,8 @@ use Rattle.dccp_server.specs.declared.duty.Duty.TheVariants.{Follow}
 use Rattle.server_peers.specs.declared.rules.Rules.{Rules}
 use Rattle.dccp_uses.specs.declared.rule.Rule.{Rule}
 
-abbrev IsByDoings : Room → Room → Type 0
+-- a list of doings has made this of a room
+abbrev pub IsByDoings : Room → Room → Type 0
 IsByDoings r after = (all : List TimedDeed) × (after ≡ does_all r all)
 
 module _ (now : ℕ) (rules : Rules) (peer : Peer) (iss : ℕ) (bytes : List ℕ) where

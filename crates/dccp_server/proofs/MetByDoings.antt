@@ -11,16 +11,13 @@ use Rattle.init_cookies.specs.declared.cookie.CookieKeys.{CookieKeys}
 use Rattle.seq_circle.specs.declared.memory.NoMemory.{NoMemory}
 use Rattle.server_peers.specs.Lives.{life_of}
 use Rattle.dccp_server.specs.Meeting.{IsGreeted, IsReopened, IsUnopened, MeetingsAreDeeds, cleared, cleared_if, entry_met, flow_at, hurrying, reopened, request_at, unreopened}
-use Rattle.dccp_server.specs.Rooms.{IsServed, Reception, Room, RuledRoom, does_all, left_without_memory, received_at, room_does, unreceived_at}
+use Rattle.dccp_server.specs.Rooms.{IsServed, Reception, Room, RuledRoom, left_without_memory, received_at, room_does, unreceived_at}
 use Rattle.dccp_server.specs.Anew.{refuses_last_sync}
 use Rattle.dccp_server.specs.Serving.{Does, ServedListener, Spends, TimedDeed, served_by, served_through}
 use Rattle.server_peers.specs.declared.asking.DatagramKind.{DatagramKind}
 use Rattle.server_peers.specs.declared.asking.DatagramKind.TheVariants as entry
 use Rattle.dccp_server.specs.declared.meeting.Way.TheVariants as way
-use Rattle.dccp_server.proofs.Judging.{lives_change_nothing, rules_are_deeds}
-
-abbrev IsByDoings : Room → Room → Type 0
-IsByDoings r after = (all : List TimedDeed) × (after ≡ does_all r all)
+use Rattle.dccp_server.proofs.Judging.{IsByDoings, lives_change_nothing, rules_are_deeds}
 
 abbrev LeavesByDoings : RuledRoom → RuledRoom → Type 0
 LeavesByDoings s after = (all : List TimedDeed) × (after.room.served ≡ served_through s.room.served all)
