@@ -16,7 +16,7 @@ fn is_requesting(phase: Phase) -> bool
     matches!(phase, Phase::Request)
 }
 
-fn is_part_open(phase: Phase) -> bool
+pub(crate) fn is_part_open(phase: Phase) -> bool
     ensures { result ≡ is_part_open phase }
 {
     matches!(phase, Phase::PartOpen)
@@ -64,7 +64,7 @@ impl Model for ClientCookie {
 
 impl ClientCookie {
     ghost use Rattle.std.specs.Prelude.{◌≡◌, ◌≤◌, [], None, length};
-    ghost use Rattle.dccp_uses.specs.ClientCookies.{cookie_kept, returning};
+    ghost use Rattle.dccp_uses.specs.ClientCookies.{cookie_kept, with_cookie};
 
     /// No cookie yet.
     pub fn none() -> ClientCookie
@@ -86,15 +86,13 @@ impl ClientCookie {
         }
     }
 
-    /// In PARTOPEN, adds the cookie to the frame that the end has left in the box, if the frame has room for it. The
+    /// Adds the cookie, if there is one, to the frame that the end has left in the box, if the frame has room for it. The
     /// addresses are those of the packets that the end sends.
-    pub fn put(&self, phase: Phase, pseudo: &Pseudo, out: &mut Outbox)
-        ensures returns { out.new ≡ returning phase pseudo.now self.now out.old }
+    pub fn put(&self, pseudo: &Pseudo, out: &mut Outbox)
+        ensures adds { out.new ≡ with_cookie pseudo.now self.now out.old }
         ensures silent { out.old ≡ None → out.new ≡ None }
     {
-        if is_part_open(phase) {
-            add_cookie(pseudo, &self.option, out);
-        }
+        add_cookie(pseudo, &self.option, out);
     }
 
     /// How many bytes it has as an option; 0 if there is none.

@@ -4,6 +4,7 @@ ghost use Rattle.data_dropped.specs.Intakes.{HasDataIfHeard, came_in};
 ghost use Rattle.dccp_endpoint.specs.End.{last_taken};
 ghost use Rattle.dccp_uses.specs.Holding.{frame_returned, spoken_by};
 
+use crate::client_cookie::is_part_open;
 use crate::{ClientCookie, TimedEnd};
 use data_dropped::{Arrival, Intake};
 use dccp_endpoint::{Congestion, Outbox, Outcome};
@@ -37,7 +38,9 @@ pub fn speak<C: Congestion>(intake: &Intake, end: &TimedEnd<C>, out: &mut Outbox
     ensures says { out.new ≡ spoken_by intake.now end.now out.old }
     ensures silent { out.old ≡ None → out.new ≡ None }
 {
-    intake.speak(&end.end().pseudo_out(), out);
+    if 0 < intake.most_said() {
+        intake.speak(&end.end().pseudo_out(), out);
+    }
 }
 
 /// In PARTOPEN, adds the cookie, if there is one, to the frame that the end has left in the box (RFC 4340, section
@@ -46,5 +49,8 @@ pub fn give_back<C: Congestion>(cookie: &ClientCookie, end: &TimedEnd<C>, out: &
     ensures returns { out.new ≡ frame_returned cookie.now end.now out.old }
     ensures silent { out.old ≡ None → out.new ≡ None }
 {
-    cookie.put(end.end().phase(), &end.end().pseudo_out(), out);
+    let end = end.end();
+    if is_part_open(end.phase()) {
+        cookie.put(&end.pseudo_out(), out);
+    }
 }
