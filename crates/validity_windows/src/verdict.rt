@@ -63,7 +63,7 @@ impl Marks {
         ensures { result ≡ by_window self.now number ack }
     {
         let windows = self.windows();
-        if number.within(windows.swl, windows.swh) && is_ack_within(ack, windows.awl, windows.awh) {
+        if number.within(windows.swl, windows.swh) && self.acknowledges(ack) {
             Verdict::Valid
         } else {
             Verdict::SyncFor(number)
@@ -91,9 +91,7 @@ impl Marks {
         ensures { result ≡ by_low_end self.now number ack }
     {
         let windows = self.windows();
-        if number.within(windows.swl, windows.swl.open_end())
-            && is_ack_within(ack, windows.awl, windows.awh)
-        {
+        if number.within(windows.swl, windows.swl.open_end()) && self.acknowledges(ack) {
             Verdict::Valid
         } else {
             Verdict::Drop
