@@ -1,10 +1,32 @@
 -- All nodes in one chain of free ones.
-use Rattle.std.proofs.Common.{◌≡◌, ℕ, ◌+◌, ◌-◌, ◌<◌, ◌≤◌, List, [], ◌∷◌, zero, suc, refl, ap, subst, arith, sym, ◌∙◌, inl, inr, length, set}
+use Rattle.std.proofs.Common.{◌≡◌, ℕ, ◌+◌, ◌-◌, ◌<◌, ◌≤◌, List, [], ◌∷◌, zero, suc, refl, ap, subst, arith, sym, ◌∙◌, inl, inr, length, set, replicate}
 use Rattle.std.proofs.lemmas.Bool.{cases_eq}
 use Rattle.std.proofs.lemmas.Grind.{get_or-set_at}
 use Rattle.run_list.specs.declared.linked.Node.{Node}
 use Rattle.run_list.specs.Linked.{no_node, node_at, runs_at, runs_from, IsPath, times_listed, AreIdle, IsLinked}
 use Rattle.run_list.proofs.Paths.{times-here, times-other, path-set, runs-set, from-path}
+
+-- nodes without a number
+abbrev pub AreEmpty : List Node → Type 0
+AreEmpty [] = Unit {0}
+AreEmpty (n ∷ ns) = (n.count ≡ 0) × AreEmpty ns
+
+empty_copies : (count : ℕ) (x : Node) → x.count ≡ 0 → AreEmpty (replicate count x)
+empty_copies zero x z = tt
+empty_copies (suc count) x z = (z, empty_copies count x z)
+
+pub copies_are_empty : (nodes : List Node) (count : ℕ) (x : Node) → nodes ≡ replicate count x → x.count ≡ 0 → AreEmpty nodes
+copies_are_empty nodes count x is z = subst AreEmpty (sym is) (empty_copies count x z)
+
+pub set_is_empty : (nodes : List Node) (i : ℕ) (x : Node) → AreEmpty nodes → x.count ≡ 0 → AreEmpty (set nodes i x)
+set_is_empty [] i x all z = tt
+set_is_empty (n ∷ ns) zero x all z = (z, all.1)
+set_is_empty (n ∷ ns) (suc i) x all z = (all.0, set_is_empty ns i x all.1 z)
+
+pub node_is_empty : (nodes : List Node) (i : ℕ) → AreEmpty nodes → (node_at nodes i).count ≡ 0
+node_is_empty [] i all = refl
+node_is_empty (n ∷ ns) zero all = all.0
+node_is_empty (n ∷ ns) (suc i) all = node_is_empty ns i all.1
 
 -- this many indices, from one up
 abbrev pub upwards : ℕ → ℕ → List ℕ

@@ -56,11 +56,7 @@ pub(crate) fn all_free(alloc: Global, zero: Seq48) -> Result<NodeList, NoMemory>
     let mut free = NONE;
     while free > 0 {
         let next = free - 1;
-        nodes[usize::from(next)] = Node {
-            hi: zero,
-            count: 0,
-            next: free,
-        };
+        nodes[usize::from(next)].next = free;
         free = next;
     }
     Ok(NodeList {
