@@ -1,5 +1,6 @@
 -- The runs of a report and its list of states say the same.
-use Rattle.std.proofs.Common.{◌≡◌, ℕ, zero, suc, ◌+◌, ◌-◌, ◌<◌, ◌≤◌, List, [], ◌∷◌, ◌++◌, Some, cond, ltb, replicate, slice_get, length, length-append, refl, sym, ◌∙◌, ap, arith}
+use Rattle.std.proofs.Common.{◌≡◌, ℕ, zero, suc, ◌+◌, ◌-◌, ◌<◌, ◌≤◌, Bool, true, false, List, [], ◌∷◌, ◌++◌, Some, cond, ltb, replicate, slice_get, length, length-append, refl, sym, ◌∙◌, ap, arith}
+use Rattle.std.proofs.lemmas.Bool.{false≢true}
 use Rattle.std.proofs.lemmas.Bool.Decides.{nat_tests}
 use Rattle.seq_circle.specs.Circle.{down}
 use Rattle.dccp_options.specs.declared.report.Run.{Run}
@@ -36,10 +37,14 @@ state_past (run ∷ passed) left place from =
     ∙ state_past passed left (place - run.count) (omega arith)
     ∙ ap (run_state left) same
 
+none_left : (passed left : List Run) → passed ++ left ≡ [] → left ≡ []
+none_left [] left is = is
+none_left (run ∷ passed) left is = cc
+
 -- between two runs, after some were passed
-pub at_passed : (all : List ℕ) (start end numbers state : ℕ) (runs left : List Run) → HavePassed runs numbers left
-    → IsAt all start end state runs → IsAt all (end + numbers) (end + numbers) state left
-at_passed all start end numbers state runs left (passed, is, counts) at = record {
+pub at_passed : (all : List ℕ) (start end numbers state : ℕ) (runs left : List Run) (ended : Bool) → HavePassed runs numbers left
+    → IsAt all start end state runs ended → IsAt all (end + numbers) (end + numbers) state left ended
+at_passed all start end numbers state runs left ended (passed, is, counts) at = record {
   inside = λ place from to. absurd (omega arith);
   following = λ place from.
       let same : place - end - numbers ≡ place - (end + numbers) = omega arith in
@@ -48,6 +53,7 @@ at_passed all start end numbers state runs left (passed, is, counts) at = record
       ∙ state_past passed left (place - end) (omega (arith, counts))
       ∙ ap (λ k. run_state left (place - end - k)) (sym counts)
       ∙ ap (run_state left) same;
+  over = λ said. none_left passed left (sym is ∙ at.over said);
 }
 
 -- what is left is no longer than all
@@ -56,19 +62,21 @@ shorter runs left numbers (passed, is, counts) = omega (arith, ap length is, len
 
 -- at the first run
 pub at_the_first : (bytes : List ℕ) (hi : ℕ) (run : Run) (left : List Run) → runs_of hi bytes ≡ run ∷ left
-    → IsAt (states bytes) 0 run.count run.state left
+    → IsAt (states bytes) 0 run.count run.state left false
 at_the_first bytes hi run left is =
     let told = λ (place : ℕ). sym (run_state-runs_of bytes hi place) ∙ ap (λ runs. run_state runs place) is in
     record {
       inside = λ place from to. told place ∙ first_state run left place to;
       following = λ place from. told place ∙ later_state run left place from;
+      over = λ said. absurd (false≢true said);
     }
 
 -- of a report without a run
-pub at_no_run : (bytes : List ℕ) (hi state : ℕ) → runs_of hi bytes ≡ [] → IsAt (states bytes) 0 0 state []
+pub at_no_run : (bytes : List ℕ) (hi state : ℕ) → runs_of hi bytes ≡ [] → IsAt (states bytes) 0 0 state [] true
 at_no_run bytes hi state is = record {
   inside = λ place from to. grind arith;
   following = λ place from. sym (run_state-runs_of bytes hi place) ∙ ap (λ runs. run_state runs place) is;
+  over = λ said. refl;
 }
 
 -- the first run is at the top

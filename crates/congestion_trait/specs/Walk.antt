@@ -21,10 +21,11 @@ abbrev pub IsTop : VectorReport → Option ℕ → Type 0
 IsTop report None = report.bytes ≡ []
 IsTop report (Some top) = top ≡ report.ack
 
--- one run covers the places from its start to its end, and these are left after it, of a list of states
-pub record IsAt (states : List ℕ) (start end state : ℕ) (left : List Run) : Type 0 where
+-- one run covers the places from its start to its end, and these are left after it, of a list of states: none where the walk has ended
+pub record IsAt (states : List ℕ) (start end state : ℕ) (left : List Run) (ended : Bool) : Type 0 where
   pub inside : (place : ℕ) → start ≤ place → place < end → slice_get states place ≡ Some state
   pub following : (place : ℕ) → end ≤ place → slice_get states place ≡ run_state left (place - end)
+  pub over : IsTrue ended → left ≡ []
 
 -- the standing of an entry after a report
 abbrev pub standing_after : Option ℕ → Bool → Standing → Standing

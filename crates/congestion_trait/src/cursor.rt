@@ -22,6 +22,8 @@ pub struct Cursor<'a> {
     end: u64,
     state: u8,
     left: ReportRuns<'a>,
+    // Nothing is left. Known only once that was asked for, which costs a look at all options.
+    ended: bool,
 }
 
 impl<'a> Cursor<'a> {
@@ -29,7 +31,7 @@ impl<'a> Cursor<'a> {
     pub fn new(report: &AckReport<'a>) -> Cursor<'a>
         ensures begins { result.start ≡ 0 }
         ensures top { IsTop report.now result.top }
-        ensures stands { IsAt (states report.now.bytes) result.start result.end result.state result.left }
+        ensures stands { IsAt (states report.now.bytes) result.start result.end result.state result.left result.ended }
         ensures few { length report.now.bytes ≤ 1008 }
     {
         let mut left = report.runs();
@@ -40,6 +42,7 @@ impl<'a> Cursor<'a> {
                 end: u64::from(run.count),
                 state: run.state,
                 left,
+                ended: false,
             },
             None => Cursor {
                 top: None,
@@ -47,17 +50,18 @@ impl<'a> Cursor<'a> {
                 end: 0,
                 state: 0,
                 left,
+                ended: true,
             },
         }
     }
 
     // Starts again if the place was passed.
     fn stand_at_or_before(&mut self, report: &AckReport<'a>, place: u64)
-        requires stands { IsAt (states report.now.bytes) self.old.start self.old.end self.old.state self.old.left }
+        requires stands { IsAt (states report.now.bytes) self.old.start self.old.end self.old.state self.old.left self.old.ended }
         requires top { IsTop report.now self.old.top }
         ensures before { self.new.start ≤ place }
         ensures top { IsTop report.now self.new.top }
-        ensures stands { IsAt (states report.now.bytes) self.new.start self.new.end self.new.state self.new.left }
+        ensures stands { IsAt (states report.now.bytes) self.new.start self.new.end self.new.state self.new.left self.new.ended }
     {
         if place < self.start {
             *self = Cursor::new(report);
@@ -72,8 +76,8 @@ impl<'a> Cursor<'a> {
         ensures none { self.new.start ≡ self.new.end }
         ensures top { self.new.top ≡ self.old.top }
         ensures shorter { length self.new.left ≤ length self.old.left }
-        ensures stands { (all : List ℕ) → IsAt all self.old.start self.old.end self.old.state self.old.left
-            → IsAt all self.new.start self.new.end self.new.state self.new.left }
+        ensures stands { (all : List ℕ) → IsAt all self.old.start self.old.end self.old.state self.old.left self.old.ended
+            → IsAt all self.new.start self.new.end self.new.state self.new.left self.new.ended }
     {
         self.start = self.end + self.left.pass(place - self.end);
         self.end = self.start;
@@ -81,12 +85,12 @@ impl<'a> Cursor<'a> {
 
     // The state that the report gives a number. Runs are passed once while numbers fall.
     pub fn state(&mut self, report: &AckReport<'a>, number: Seq48) -> Option<u8>
-        requires stands { IsAt (states report.now.bytes) self.old.start self.old.end self.old.state self.old.left }
+        requires stands { IsAt (states report.now.bytes) self.old.start self.old.end self.old.state self.old.left self.old.ended }
         requires top { IsTop report.now self.old.top }
         ensures value { result ≡ state_at report.now.ack report.now.bytes number }
         ensures none { IfNone result ((place : ℕ) → distance number report.now.ack ≤ place → slice_get (states report.now.bytes) place ≡ None) }
         ensures top { IsTop report.now self.new.top }
-        ensures stands { IsAt (states report.now.bytes) self.new.start self.new.end self.new.state self.new.left }
+        ensures stands { IsAt (states report.now.bytes) self.new.start self.new.end self.new.state self.new.left self.new.ended }
     {
         let Some(top) = self.top else {
             return None;
@@ -94,13 +98,19 @@ impl<'a> Cursor<'a> {
         let place = number.distance(top);
         self.stand_at_or_before(report, place);
         while self.end <= place {
+            if self.ended {
+                return None;
+            }
             self.pass(place);
             match self.left.next() {
                 Some(run) => {
                     self.end += u64::from(run.count);
                     self.state = run.state;
                 }
-                None => return None,
+                None => {
+                    self.ended = true;
+                    return None;
+                }
             }
         }
         Some(self.state)

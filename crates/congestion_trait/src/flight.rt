@@ -136,7 +136,25 @@ impl Flight {
     /// new congestion. With None every loss and every marked packet does. While numbers are sent in their order, the
     /// cost is that of the report's runs and of the entries from the newest that any report has reached down to the
     /// oldest that is Out or that these runs reach.
+    #[inline(always)]
     pub fn report(&mut self, report: &AckReport<'_>, mark: Option<Seq48>) -> FlightNews
+        ensures entries { self.new ≡ after_report (state_at report.now.ack report.now.bytes) self.old }
+        ensures acked { result.acked ≡ acked_count (state_at report.now.ack report.now.bytes) self.old }
+        ensures few { result.acked ≤ 2048 }
+        ensures congested { result.congested ≡ is_congested (state_at report.now.ack report.now.bytes) mark self.old }
+    {
+        if self.counts.settled == self.entries.len() {
+            return FlightNews {
+                acked: 0,
+                congested: false,
+            };
+        }
+        self.settle_by(report, mark)
+    }
+
+    // The same, if an entry is not yet Reported. It is a separate function, so that the other case costs no call.
+    #[inline(never)]
+    fn settle_by(&mut self, report: &AckReport<'_>, mark: Option<Seq48>) -> FlightNews
         ensures entries { self.new ≡ after_report (state_at report.now.ack report.now.bytes) self.old }
         ensures acked { result.acked ≡ acked_count (state_at report.now.ack report.now.bytes) self.old }
         ensures few { result.acked ≤ 2048 }

@@ -187,6 +187,7 @@ fn unheard_from<'a>(
 
 // Settles the entries by a report, from the newest that it may reach down to where no older one is Out or is reached by
 // it.
+#[inline(always)]
 pub fn settle(
     entries: &mut HeapCircularBuffer<FlightEntry>,
     counts: &Counts,

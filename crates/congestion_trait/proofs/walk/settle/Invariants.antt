@@ -6,7 +6,7 @@ use Rattle.congestion_trait.proofs.walk.settle.Given as goal
 abbrev pub invariant-loop-untouched : goal.invariant-loop-untouched
 invariant-loop-untouched l =
     IsAlong (state_at l.report.ack l.report.bytes) l.mark l.fn.entries.items l.index l.entries.items l.walk
-    × IsAt (states l.report.bytes) l.cursor.start l.cursor.end l.cursor.state l.cursor.left
+    × IsAt (states l.report.bytes) l.cursor.start l.cursor.end l.cursor.state l.cursor.left l.cursor.ended
     × IsTop l.report l.cursor.top
     × (l.entries.capacity ≡ l.fn.entries.capacity)
     × (l.untouched ≤ l.index)

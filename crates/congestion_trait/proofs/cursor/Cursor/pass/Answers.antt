@@ -5,4 +5,4 @@ pub returns-clause-shorter : goal.returns-clause-shorter
 returns-clause-shorter c = shorter _ _ _ c.pass.ensures.past
 
 pub returns-clause-stands : goal.returns-clause-stands
-returns-clause-stands c = λ all at. at_passed all _ _ _ _ _ _ c.pass.ensures.past at
+returns-clause-stands c = λ all at. at_passed all _ _ _ _ _ _ _ c.pass.ensures.past at

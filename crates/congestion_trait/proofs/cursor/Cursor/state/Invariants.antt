@@ -7,7 +7,7 @@ abbrev pub invariant-loop-self : goal.invariant-loop-self
 invariant-loop-self l =
     (l.self.start ≤ l.place) × (l.place < 2 ^ 48)
     × IsTop l.report l.self.top
-    × IsAt (states l.report.bytes) l.self.start l.self.end l.self.state l.self.left
+    × IsAt (states l.report.bytes) l.self.start l.self.end l.self.state l.self.left l.self.ended
 
 abbrev pub decreases-loop-self : goal.decreases-loop-self
 decreases-loop-self l = length l.self.left

@@ -6,7 +6,7 @@ use Rattle.congestion_trait.proofs.Settled.{untouched_from_reported, front_stays
 use Rattle.congestion_trait.proofs.Settling.{length-after_report}
 use Rattle.congestion_trait.proofs.Near.{numbers_after_report}
 use Rattle.congestion_trait.proofs.Unheard.{out_after}
-use Rattle.congestion_trait.proofs.flight.Flight.report.Goals as goal
+use Rattle.congestion_trait.proofs.flight.Flight.settle_by.Goals as goal
 
 pub settled_from-self-inside-requires-clause-within : goal.settled_from-self-inside-requires-clause-within
 settled_from-self-inside-requires-clause-within c =
