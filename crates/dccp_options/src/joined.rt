@@ -13,11 +13,9 @@ pub(crate) struct JoinedBytes<'a> {
     options: Cursor<'a>,
 }
 
-// The first Ack Vector among the options, and those after it. It is a separate function, so that a next byte of the
-// same vector costs no call; and the options go in and out by value, so that a walk over bytes keeps its place in
-// registers.
-#[inline(never)]
-fn next_vector<'a>(mut options: Cursor<'a>) -> Option<(&'a [u8], Cursor<'a>)>
+// The first Ack Vector among the options, and those after it.
+#[inline(always)]
+fn first_vector<'a>(mut options: Cursor<'a>) -> Option<(&'a [u8], Cursor<'a>)>
     ensures { MatchOption result (ack_vectors (entries_left false options.entry) ≡ [])
         (λ next. ack_vectors (entries_left false options.entry)
         ≡ next.0.now ∷ ack_vectors (entries_left false next.1)) }
@@ -31,6 +29,17 @@ fn next_vector<'a>(mut options: Cursor<'a>) -> Option<(&'a [u8], Cursor<'a>)>
     None
 }
 
+// The same in a separate function, so that a next byte of the same vector costs no call. The options go in and out by
+// value, so that a walk over bytes keeps its place in registers.
+#[inline(never)]
+fn next_vector<'a>(options: Cursor<'a>) -> Option<(&'a [u8], Cursor<'a>)>
+    ensures { MatchOption result (ack_vectors (entries_left false options.entry) ≡ [])
+        (λ next. ack_vectors (entries_left false options.entry)
+        ≡ next.0.now ∷ ack_vectors (entries_left false next.1)) }
+{
+    first_vector(options)
+}
+
 impl<'a> JoinedBytes<'a> {
     /// The bytes of the Ack Vectors among the options, or None if there is none.
     pub(crate) fn of(options: Cursor<'a>) -> Option<JoinedBytes<'a>>
@@ -39,7 +48,7 @@ impl<'a> JoinedBytes<'a> {
             × (bytes_left joined ≡ vector_bytes (entries_left false options.entry))
             × (length (bytes_left joined) ≤ 1008)) }
     {
-        let (vector, options) = next_vector(options)?;
+        let (vector, options) = first_vector(options)?;
         Some(JoinedBytes { vector, options })
     }
 }

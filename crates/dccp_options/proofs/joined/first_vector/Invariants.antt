@@ -1,7 +1,7 @@
 use Rattle.std.proofs.Common.{◌≡◌, length, false}
 use Rattle.dccp_options.specs.Vectors.{ack_vectors}
 use Rattle.dccp_options.specs.Left.{entries_left}
-use Rattle.dccp_options.proofs.joined.next_vector.Given as goal
+use Rattle.dccp_options.proofs.joined.first_vector.Given as goal
 
 abbrev pub invariant-loop-item : goal.invariant-loop-item
 invariant-loop-item l = ack_vectors (entries_left false l.options) ≡ ack_vectors (entries_left false l.fn.options)
