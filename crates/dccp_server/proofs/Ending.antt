@@ -1,6 +1,6 @@
 -- Ticks of a listener come to an end: each leaves less that is due.
 use Rattle.dccp_states.specs.Phases.{is_closed}
-use Rattle.std.proofs.Common.{◌≡◌, refl, sym, ap, ◌∙◌, subst, ℕ, zero, suc, ◌+◌, ◌*◌, ◌≤◌, Bool, true, false, if◌then◌else◌, List, [], ◌∷◌, length, Option, Some, None, is_some, IsSome, IfSome, arith}
+use Rattle.std.proofs.Common.{◌≡◌, refl, sym, ap, ◌∙◌, subst, ℕ, zero, suc, ◌+◌, ◌*◌, ◌≤◌, Bool, true, false, if◌then◌else◌, List, [], ◌∷◌, length, Option, Some, None, is_some, IsSome, arith}
 use Rattle.std.proofs.lemmas.Bool.{false≢true}
 use Rattle.std.proofs.lemmas.List.Sums.{sum_by-cons}
 use Rattle.std.proofs.lemmas.Map.Entries.{length-keys_of, sum_by-insert_entry, sum_by-remove_entry}
@@ -10,13 +10,10 @@ use Rattle.std.specs.Map.{keys_of, lookup, values_of}
 use Rattle.std.specs.Option.{option_map}
 use Rattle.std.specs.Prelude.{unwrap_or}
 use Rattle.ccid_two.specs.Kinds.{Both, kinds_control}
-use Rattle.dccp_packets.specs.Outgoing.{Outgoing}
-use Rattle.dccp_listener.proofs.Computing.{computed_runs}
 use Rattle.dccp_listener.proofs.OnePeer.{peers_total}
-use Rattle.dccp_listener.specs.Chain.{Calls, ChainStep, Fires, FlowCall, chain_step, flow_step}
+use Rattle.dccp_listener.specs.Chain.{Calls, Fires, FlowCall}
 use Rattle.dccp_listener.specs.Listens.{listening_after, listens, listens_by}
-use Rattle.dccp_listener.specs.Peers.{FlowEnd, ListenerState, end_of_peer, is_peer, peer_cmp}
-use Rattle.dccp_listener.specs.Runs.{CallTold, HadNoMemory, IsTurnSo, Stepped, WasBusy}
+use Rattle.dccp_listener.specs.Peers.{FlowEnd, end_of_peer, is_peer, peer_cmp}
 use Rattle.dccp_listener.specs.declared.peer.Peer.{Peer}
 use Rattle.dccp_states.specs.declared.calls.Timer.{Timer}
 use Rattle.dccp_states.specs.declared.calls.Timer.TheVariants as timers
@@ -37,6 +34,7 @@ use Rattle.dccp_server.specs.declared.happening.FlowHappening.{FlowHappening}
 use Rattle.dccp_server.specs.declared.happening.FlowHappening.TheVariants as happening
 use Rattle.server_peers.specs.declared.queue.Ticket.{Ticket}
 use Rattle.dccp_uses.specs.declared.upkeep.Upkeep.{Upkeep}
+use Rattle.dccp_server.proofs.InRooms.{left_by_call}
 use Rattle.dccp_server.proofs.Refusing.{IsResting, kept_at, rests_after, resting}
 use Rattle.dccp_server.proofs.Timing.{same_kept}
 use Rattle.server_peers.proofs.Among.{found_among}
@@ -201,50 +199,11 @@ module _ (now : ℕ) where
         ap (λ (x : Option Upkeep). unwrap_or (option_map weight x) 0) found,
       )
 
-  -- a call of a peer that has an end leaves what is left of it
-
-  is-stepped : CallTold → Bool
-  is-stepped (Stepped it) = true
-  is-stepped WasBusy = false
-  is-stepped HadNoMemory = false
-
-  end-then : (l after : ListenerState) (peer : Peer) (call : FlowCall) (e : FlowEnd) (frame : Option Outgoing) (turned told : CallTold)
-      → end_of_peer l.flows peer ≡ Some e → is-stepped told ≡ true
-      → IsTurnSo l after (record { peer = peer; deed = Calls call; frame = frame; told = turned }) told
-      → end_of_peer after.flows peer
-      ≡ (if is_closed (flow_step e (Calls call)).after.state.phase then None else Some (flow_step e (Calls call)).after)
-  unfolding is-stepped
-  end-then l after peer call e frame turned (Stepped it) found is step =
-      ap (λ (s : ChainStep). s.after) step.own ∙ ap (λ (x : Option FlowEnd). (chain_step l.config peer x (Calls call)).after) found
-  end-then l after peer call e frame turned WasBusy found is step = absurd (false≢true is)
-  end-then l after peer call e frame turned HadNoMemory found is step = absurd (false≢true is)
-
   -- so each tick leaves less that is due
 
   module _ (s : ServedListener) (is : IsResting s) where
     sorted : IsStrictlySortedBy peer_cmp (keys_of s.upkeeps)
     sorted = subst (IsStrictlySortedBy peer_cmp) (sym is.tied.same_peers) is.tied.ordered
-
-    abbrev Left : Peer → FlowEnd → Option FlowCall → Type 0
-    Left peer e call =
-        end_of_peer (listening_if s.listening peer call).flows peer
-        ≡ (if is_closed (flow_after e call).state.phase then None else Some (flow_after e call))
-
-    left : (peer : Peer) (e : FlowEnd) (call : Option FlowCall) → end_of_peer s.listening.flows peer ≡ Some e → Left peer e call
-    unfolding is-stepped
-    left peer e None found =
-        let live : is_closed e.state.phase ≡ false =
-        subst (λ (x : Option FlowEnd). IfSome x (λ e. is_closed e.state.phase ≡ false)) found (is.live peer)
-        in
-        found ∙ sym (ap (λ (b : Bool). if b then None else Some e) live)
-    left peer e (Some call) found =
-        let run = computed_runs s.listening ((peer, Calls call) ∷ []) is.tied.ordered in
-        let stepped : is-stepped (listens s.listening peer (Calls call)).told ≡ true =
-        ap (λ (x : Option FlowEnd). is-stepped (listens_by s.listening peer x (Calls call)).told) found
-        in
-        ap (λ (l : ListenerState). end_of_peer l.flows peer) run.0.2
-        ∙ end-then s.listening run.0.0 peer call e _ (listens s.listening peer (Calls call)).told
-        (listens s.listening peer (Calls call)).told found stepped run.0.1
 
     abbrev u : Peer → Upkeep
     u peer = upkeep_at s.pace s.upkeeps peer
@@ -254,7 +213,7 @@ module _ (now : ℕ) where
         → weight (next_upkeep now s.pace (u peer) it (flow_after e call)) + 1 ≤ weight (u peer)
         → total (serves_on now s (listening_if s.listening peer call) peer it).upkeeps + 1 ≤ total s.upkeeps
     falls-by peer e call it found falls =
-        subst (λ (x : Option FlowEnd). total (upkeeps_then now s.pace s.upkeeps peer x (u peer) it) + 1 ≤ total s.upkeeps) (sym (left peer e call found))
+        subst (λ (x : Option FlowEnd). total (upkeeps_then now s.pace s.upkeeps peer x (u peer) it) + 1 ≤ total s.upkeeps) (sym (left_by_call s is peer e found call))
         (less-by s.pace s.upkeeps peer (u peer) it (flow_after e call) (is_closed (flow_after e call).state.phase) sorted
         (kept_at s peer is.tied (ap is_some found)) falls)
 

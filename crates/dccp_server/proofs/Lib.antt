@@ -3,6 +3,7 @@ pub mod Doings
 pub mod Ending
 pub mod Forgetting
 pub mod Going
+pub mod InRooms
 pub mod Judging
 pub mod Living
 pub mod MetByDoings

@@ -5,7 +5,7 @@ ghost use Rattle.dccp_server.specs.Meeting.{MeetingsAreDeeds};
 ghost use Rattle.server_peers.specs.Places.{WalksNameEachOnce};
 ghost use Rattle.dccp_server.specs.Rooms.{ForgottenHaveNone, LivesChangeNothing, RulesAreDeeds};
 ghost use Rattle.dccp_server.specs.Serving.{CallsAreARun, CallsWantNoMemory, OnlyStrangersWantMemory, RefusedCallsChangeNothing, UpkeepsStandWithFlows};
-ghost use Rattle.dccp_server.specs.Timing.{FlowsAreTimedEnds};
+ghost use Rattle.dccp_server.specs.Timing.{FlowsAreTimedEnds, ListenersKeepFlows};
 
 /// If there is memory, what is done with a listener is a run of it, with any times and rules of paths. So each peer is
 /// answered by the chain of its own calls (`each_peer_has_its_own_chain` of dccp_listener; own).
@@ -39,10 +39,12 @@ pub fn no_flow_is_passed_over()
     ensures stays { EachMayStay }
 {}
 
-/// Whatever is known of a flow and its path, a listener keeps of it, after a datagram, a timer or a rule, what a single
-/// end with its timers would keep (`TimedEnd` of dccp_uses; own).
+/// Whatever is known of a flow and its path, each datagram, call, timer and rule leaves the end, the timers and the path
+/// that it leaves of a single end with its timers (`TimedEnd` of dccp_uses). After any deeds, that is what a listener then
+/// has of the peer (own).
 pub fn flows_are_timed_ends()
-    ensures { FlowsAreTimedEnds }
+    ensures alike { FlowsAreTimedEnds }
+    ensures kept { ListenersKeepFlows }
 {}
 
 /// Whatever the rules, the effect of a datagram is that of a list of deeds, and the lives of flows do not change them.
