@@ -41,11 +41,19 @@ abbrev pub rules_of_opening : Rules → Option OpeningState → Rules
 rules_of_opening rules None = rules
 rules_of_opening rules (Some o) = hurried rules
 
--- The life of the flow that would make room for one more of this peer, if it has none and all places are taken.
+-- a peer has a flow, or there is a place for one more
+abbrev pub has_place : RuledRoom → Peer → Bool
+has_place s peer = is_some (end_of_peer s.room.served.listening.flows peer) || not (is_table_full s.room.served.listening)
+
+-- The life of the flow that would make room for one more of this peer, for a datagram that brings this opening back, if it brings one.
+abbrev pub leaver_life_by : ℕ → RuledRoom → Peer → Option OpeningState → Option Life
+leaver_life_by now s peer opening =
+    if has_place s peer then None
+    else option_map (life_of s.room.lives) (who_leaves (time_of_opening now opening) (rules_of_opening s.rules opening) s.room)
+
+-- the same by what the datagram brings back
 abbrev pub leaver_life : ℕ → RuledRoom → Peer → List ℕ → Option Life
-leaver_life now s peer bytes =
-    if is_some (end_of_peer s.room.served.listening.flows peer) || not (is_table_full s.room.served.listening) then None
-    else option_map (life_of s.room.lives) (who_leaves (time_of_opening now (returned now s peer bytes)) (rules_of_opening s.rules (returned now s peer bytes)) s.room)
+leaver_life now s peer bytes = leaver_life_by now s peer (returned now s peer bytes)
 
 -- the peer whose flow has made room, for the flow that a cookie opened or for the datagram
 abbrev pub room_maker : Option Peer → Option Peer → Option Peer

@@ -1,6 +1,6 @@
 //! A server that lists the events of its flows.
 ghost use Rattle.std.specs.Prelude.{◌≡◌, ◌≤◌, length};
-ghost use Rattle.dccp_server.specs.Events.{ends_old, flow_state, leaver_life, room_maker, rules_of_opening, time_of_opening};
+ghost use Rattle.dccp_server.specs.Events.{ends_old, flow_state, has_place, leaver_life, leaver_life_by, room_maker, rules_of_opening, time_of_opening};
 ghost use Rattle.server_peers.specs.Events.{evicted_event};
 
 use crate::duty::Duty;
@@ -51,7 +51,34 @@ fn rules_of_opening(rules: Rules, opening: &Option<FirstRequest>) -> Rules
     }
 }
 
-// The life of the flow that would make room for one more of this peer, if all places are taken.
+// Whether a peer has a flow, or there is a place for one more.
+fn has_place(server: &Server, peer: Peer) -> bool
+    ensures { result ≡ has_place server.now peer }
+{
+    server.has_flow(peer) || !server.is_full()
+}
+
+// The life of the flow that would make room for one more of this peer, if all places are taken, for a datagram that
+// brings this opening back, if it brings one.
+fn leaver_life_by(
+    server: &Server,
+    peer: Peer,
+    opening: &Option<FirstRequest>,
+    now: u64,
+) -> Option<Life>
+    ensures { result ≡ leaver_life_by now server.now peer opening.now }
+{
+    if has_place(server, peer) {
+        return None;
+    }
+    let rules = rules_of_opening(server.rules(), opening);
+    match server.leaver(&rules, time_of_opening(now, opening)) {
+        Some(leaver) => Some(server.life(leaver)),
+        None => None,
+    }
+}
+
+// The same, for a datagram of which no more is wanted: its cookie is read only if somebody has to leave.
 fn leaver_life(
     server: &Server,
     peer: Peer,
@@ -61,15 +88,10 @@ fn leaver_life(
     requires { length datagram.now ≤ 2044 }
     ensures { result ≡ leaver_life now server.now peer datagram.now }
 {
-    if server.has_flow(peer) || !server.is_full() {
+    if has_place(server, peer) {
         return None;
     }
-    let returned = server.returned(peer, datagram, now);
-    let rules = rules_of_opening(server.rules(), &returned);
-    match server.leaver(&rules, time_of_opening(now, &returned)) {
-        Some(leaver) => Some(server.life(leaver)),
-        None => None,
-    }
+    leaver_life_by(server, peer, &server.returned(peer, datagram, now), now)
 }
 
 /// The peer whose flow has made room, for the flow that a cookie opened or for the datagram.
@@ -134,7 +156,7 @@ impl EventServer {
     ghost use Rattle.dccp_listener.specs.Peers.{end_of_peer};
     ghost use Rattle.dccp_listener.specs.Runs.{Stepped};
     ghost use Rattle.dccp_listener.specs.Standing.{IsListening};
-    ghost use Rattle.dccp_server.specs.Events.{called_on, due_state, ends_old, entry_at, flow_state, heard_on, is_shut_out, room_maker, shut_out, ticked_on, told_of_duty};
+    ghost use Rattle.dccp_server.specs.Events.{called_on, due_state, ends_old, entry_at, flow_state, heard_on, is_shut_out, leaver_life, room_maker, shut_out, ticked_on, told_of_duty};
     ghost use Rattle.server_peers.specs.Events.{aborted_end, events_between, events_left, first_event, no_events, silent_end};
     ghost use Rattle.dccp_server.specs.Meeting.{IsMet, may_meet};
     ghost use Rattle.server_peers.specs.CookieUses.{rekeyed};
@@ -226,8 +248,7 @@ impl EventServer {
         ensures told { self.new ≡ heard_on now self.old self.new.server peer datagram.now (told_of_arrival result.arrival.heard) (room_maker result.made_room result.arrival.evicted) (ends_old result.arrival.anew result.way) }
     {
         let was = flow_state(&self.server, peer);
-        let life = leaver_life(&self.server, peer, datagram, now);
-        let meeting = self.meet(peer, iss, datagram, now, out);
+        let (life, meeting) = self.meet(peer, iss, datagram, now, out);
         let maker = room_maker(meeting.made_room, meeting.arrival.evicted);
         let anew = ends_old(meeting.arrival.anew, meeting.way);
         self.events = events_between(
@@ -241,7 +262,8 @@ impl EventServer {
         meeting
     }
 
-    // The datagram is met, or served without cookies if no new flow is taken.
+    // The datagram is met, or served without cookies if no new flow is taken. Returns also the life of the flow that
+    // would have made room.
     fn meet(
         &mut self,
         peer: Peer,
@@ -249,17 +271,21 @@ impl EventServer {
         datagram: &DecodedDatagram<'_>,
         now: u64,
         out: &mut Outbox,
-    ) -> Meeting
+    ) -> (Option<Life>, Meeting)
         requires { length datagram.now ≤ 2044 }
-        ensures met { IsMet now self.old.server self.new.server peer iss datagram.now out.new result.arrival.heard result.arrival.evicted result.arrival.anew result.made_room result.way }
-        ensures way { may_meet (entry_at now self.old peer iss datagram.now) result.way ≡ true }
+        ensures life { result.0 ≡ leaver_life now self.old.server peer datagram.now }
+        ensures met { IsMet now self.old.server self.new.server peer iss datagram.now out.new result.1.arrival.heard result.1.arrival.evicted result.1.arrival.anew result.1.made_room result.1.way }
+        ensures way { may_meet (entry_at now self.old peer iss datagram.now) result.1.way ≡ true }
         ensures rest { self.new ≡ record self.old { server = self.new.server } }
     {
         if self.is_shut {
-            self.server.serve(peer, iss, datagram, now, out)
-        } else {
-            self.server.meet(peer, iss, datagram, now, out)
+            let life = leaver_life(&self.server, peer, datagram, now);
+            return (life, self.server.serve(peer, iss, datagram, now, out));
         }
+        let opening = self.server.returned(peer, datagram, now);
+        let life = leaver_life_by(&self.server, peer, &opening, now);
+        let meeting = self.server.meet_by(opening, peer, iss, datagram, now, out);
+        (life, meeting)
     }
 
     /// Refuses a datagram that would open a flow, in place of `arrive`: `Server::refuse`.

@@ -236,18 +236,20 @@ impl Server {
         DatagramKind::Plain
     }
 
-    // The kind of a datagram.
+    // The kind of a datagram that brings this opening back, if it brings one.
     fn entry_met(
         &self,
+        opening: Option<FirstRequest>,
         peer: Peer,
         iss: Seq48,
         datagram: &DecodedDatagram<'_>,
         now: u64,
     ) -> DatagramKind
-        requires { length datagram.now ≤ 2044 }
+        requires short { length datagram.now ≤ 2044 }
+        requires brought { opening ≡ returned now self.now peer datagram.now }
         ensures { result ≡ entry_met now self.now peer iss datagram.now }
     {
-        match self.returned(peer, datagram, now) {
+        match opening {
             Some(opening) => DatagramKind::Returns(opening),
             None => self.entry_without(peer, iss, datagram, now),
         }
@@ -335,7 +337,26 @@ impl Server {
         ensures met { IsMet now self.old self.new peer iss datagram.now out.new result.arrival.heard result.arrival.evicted result.arrival.anew result.made_room result.way }
         ensures way { may_meet (entry_met now self.old peer iss datagram.now) result.way ≡ true }
     {
-        match self.entry_met(peer, iss, datagram, now) {
+        let opening = self.returned(peer, datagram, now);
+        self.meet_by(opening, peer, iss, datagram, now, out)
+    }
+
+    /// The same of a datagram that brings this opening back, if it brings one.
+    pub(crate) fn meet_by(
+        &mut self,
+        opening: Option<FirstRequest>,
+        peer: Peer,
+        iss: Seq48,
+        datagram: &DecodedDatagram<'_>,
+        now: u64,
+        out: &mut Outbox,
+    ) -> Meeting
+        requires short { length datagram.now ≤ 2044 }
+        requires brought { opening ≡ returned now self.old peer datagram.now }
+        ensures met { IsMet now self.old self.new peer iss datagram.now out.new result.arrival.heard result.arrival.evicted result.arrival.anew result.made_room result.way }
+        ensures way { may_meet (entry_met now self.old peer iss datagram.now) result.way ≡ true }
+    {
+        match self.entry_met(opening, peer, iss, datagram, now) {
             DatagramKind::Plain => self.serve(peer, iss, datagram, now, out),
             DatagramKind::TooLong => leave_out(Ok(None), out),
             DatagramKind::Asks(opening) => self.greet(peer, &opening, iss, datagram, now, out),
