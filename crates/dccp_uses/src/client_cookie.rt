@@ -88,7 +88,7 @@ impl ClientCookie {
 
     /// Adds the cookie, if there is one, to the frame that the end has left in the box, if the frame has room for it. The
     /// addresses are those of the packets that the end sends.
-    pub fn put(&self, pseudo: &Pseudo, out: &mut Outbox)
+    pub(crate) fn put(&self, pseudo: &Pseudo, out: &mut Outbox)
         ensures adds { out.new ≡ with_cookie pseudo.now self.now out.old }
         ensures silent { out.old ≡ None → out.new ≡ None }
     {
