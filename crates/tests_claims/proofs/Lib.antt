@@ -6,3 +6,4 @@ pub mod Received
 pub mod CookieRead
 pub mod Inboxed
 pub mod RowsInboxed
+pub mod RowsClaims

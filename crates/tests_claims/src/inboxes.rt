@@ -1,17 +1,23 @@
 //! What a caller can rely on for an inbox, and for two ends with inboxes.
-ghost use Rattle.std.specs.Prelude.{◌≡◌, ◌<◌, ◌≤◌, ◌^◌, ℕ, List, IsTrue, None, Ok, Some, Contains, drop, length, slice_get, take};
+ghost use Rattle.std.specs.Prelude.{◌≡◌, ◌<◌, ◌≤◌, ◌^◌, ◌-◌, ◌++◌, ◌∷◌, ℕ, List, [], IsTrue, None, Ok, Some, Contains, drop, length, slice_get, take};
+ghost use Rattle.std.specs.List.{list_any};
+ghost use Rattle.data_dropped.specs.Buffering.{buffers};
 ghost use Rattle.data_dropped.specs.Drops.{HaveCodes, code_at, drop_bytes, drop_code, tells_all};
-ghost use Rattle.data_dropped.specs.History.{InboxCall, history_after_all, no_history};
+ghost use Rattle.data_dropped.specs.EndHistory.{BufferedPast, EndReceives, buffered_now, past_after};
+ghost use Rattle.data_dropped.specs.Frames.{acknowledged_by};
+ghost use Rattle.data_dropped.specs.History.{InboxCall, history_after_all, is_stop, no_history};
 ghost use Rattle.data_dropped.specs.Inbox.{InboxState};
 ghost use Rattle.data_dropped.specs.Telling.{TellsItsDrops, options_in_packet, report_in_packet};
+ghost use Rattle.data_dropped.specs.declared.answers.Arrival.TheVariants as arrivals;
 ghost use Rattle.data_dropped.specs.declared.drops.DropEntry.{DropEntry};
-ghost use Rattle.dccp_endpoint.specs.End.{EndState};
+ghost use Rattle.dccp_endpoint.specs.End.{EndState, last_taken};
 ghost use Rattle.dccp_endpoint.specs.Receiving.{receives};
 ghost use Rattle.dccp_options.specs.Vectors.{VectorReport, report_of, state_at};
 ghost use Rattle.dccp_states.specs.declared.outcome.Outcome.TheVariants as outcomes;
 ghost use Rattle.dccp_states.specs.declared.outcome.Why.{Why};
 ghost use Rattle.dccp_packets.specs.Grammar.{Parts, decoded};
 ghost use Rattle.dccp_packets.specs.Outgoing.{Outgoing};
+ghost use Rattle.dccp_sum.specs.declared.pseudo_header.Pseudo.{Pseudo};
 ghost use Rattle.seq_circle.specs.Circle.{distance};
 ghost use Rattle.tests_claims.specs.Inboxed.{ReachedWithInboxes};
 ghost use Rattle.two_ends.specs.Reported.{processed_by};
@@ -23,22 +29,56 @@ ghost use Rattle.two_inboxes.specs.Inboxes.{InboxPair, inbox_at};
 ghost use Rattle.world_events.specs.declared.event.Side.{Side};
 
 use congestion_trait::Congestion;
-use data_dropped::{a_report_of_drops_reads_back, what_is_kept_is_taken};
+use data_dropped::{
+    a_frame_is_read_as_its_drops, a_report_of_drops_reads_back, what_an_end_keeps_is_taken,
+    what_is_kept_is_taken,
+};
 use two_ends::every_run_is_safe;
 use two_inboxes::{
     ends_with_inboxes_run_as_alone, frames_tell_of_what_was_taken, longer_frames_are_taken_alike,
 };
 
 /// After any calls of an inbox, the first of the data that were kept were taken, and it holds the others (`taken`,
-/// `held`). It never holds more than it may (`within`).
+/// `held`). It never holds more than it may (`within`). It is stopped exactly if a call stopped it (`stopped`), and the
+/// drops that it reports are the last 2,048 (`drops`).
 pub fn an_inbox_hands_over_what_it_kept()
     ensures taken { (capacity : ℕ) (calls : List InboxCall) → take (length (history_after_all (no_history capacity) calls).taken)
         (history_after_all (no_history capacity) calls).kept ≡ (history_after_all (no_history capacity) calls).taken }
     ensures held { (capacity : ℕ) (calls : List InboxCall) → drop (length (history_after_all (no_history capacity) calls).taken)
         (history_after_all (no_history capacity) calls).kept ≡ (history_after_all (no_history capacity) calls).held.items }
     ensures within { (capacity : ℕ) (calls : List InboxCall) → capacity < length (history_after_all (no_history capacity) calls).held.items → ⊥ }
+    ensures stopped { (capacity : ℕ) (calls : List InboxCall) → (history_after_all (no_history capacity) calls).held.stopped ≡ list_any is_stop calls }
+    ensures drops { (capacity : ℕ) (calls : List InboxCall) → (history_after_all (no_history capacity) calls).held.drops
+        ≡ drop (length (history_after_all (no_history capacity) calls).dropped - 2048) (history_after_all (no_history capacity) calls).dropped }
 {
     what_is_kept_is_taken();
+}
+
+/// What an end with an inbox says of the data of a packet is what became of them: it kept them under the packet's
+/// number, or dropped them with that code (`kept`, `dropped`).
+pub fn an_end_says_what_became_of_data<C: Congestion>()
+    ensures kept { (p : BufferedPast C) (bytes : List ℕ) → (buffers C.control (buffered_now p) bytes).arrival ≡ Some arrivals.Kept
+        → (payload : List ℕ) × ((past_after C.control p (EndReceives bytes)).past.kept
+        ≡ p.past.kept ++ record { number = last_taken (receives p.end.state bytes).after; payload = payload } ∷ []) }
+    ensures dropped { (p : BufferedPast C) (bytes : List ℕ) (code : ℕ) → (buffers C.control (buffered_now p) bytes).arrival ≡ Some (arrivals.Dropped code)
+        → (past_after C.control p (EndReceives bytes)).past.dropped
+        ≡ p.past.dropped ++ record { number = last_taken (receives p.end.state bytes).after; code = code } ∷ [] }
+{
+    what_an_end_keeps_is_taken::<C>();
+}
+
+/// What is read of the drops in a frame of an end with an inbox: only codes of data that were dropped, and, if the
+/// report is whole, that of each drop among the 2,048 numbers from the acknowledgement number down (`only`, `all`).
+pub fn a_frame_tells_the_drops()
+    ensures only { (pseudo : Pseudo) (held : InboxState) (own frame : Outgoing) (tells : TellsItsDrops pseudo held own frame) (ack n code : ℕ) (r : VectorReport)
+        → acknowledged_by frame.ack tells.packet.header.kind ≡ Some ack → report_in_packet ack tells.packet ≡ Some r → HaveCodes held.drops
+        → ack < 2 ^ 48 → n < 2 ^ 48 → drop_code held.drops n ≡ None → code_at r.ack r.bytes n ≡ Some code → ⊥ }
+    ensures all { (pseudo : Pseudo) (held : InboxState) (own frame : Outgoing) (tells : TellsItsDrops pseudo held own frame) (ack n code : ℕ) (r : VectorReport)
+        → acknowledged_by frame.ack tells.packet.header.kind ≡ Some ack → report_in_packet ack tells.packet ≡ Some r → HaveCodes held.drops
+        → ack < 2 ^ 48 → n < 2 ^ 48 → IsTrue (tells_all held.drops ack) → distance n ack ≤ 2047 → drop_code held.drops n ≡ Some code
+        → code_at r.ack r.bytes n ≡ Some code }
+{
+    a_frame_is_read_as_its_drops();
 }
 
 /// In a report of drops a number has a code only if its data were dropped with that code (`only`). If the report is

@@ -5,6 +5,7 @@
 
 pub mod cookies;
 pub mod ends;
+pub mod facts;
 pub mod inboxes;
 pub mod paths;
 pub mod tables;

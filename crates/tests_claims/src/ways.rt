@@ -49,8 +49,12 @@ pub fn a_negotiation_takes_twenty_four_events<C: Congestion>()
         ⊎ ((feature : Feature)
         → ((held_of (plays C.control w way).world.client.end feature place.Here).stand ≡ Stable)
         × (((held_of (plays C.control w way).world.server.end feature place.There).stand ≡ Stable)
-        × ((held_of (plays C.control w way).world.client.end feature place.Here).value
-        ≡ (held_of (plays C.control w way).world.server.end feature place.There).value))))) }
+        × (((held_of (plays C.control w way).world.client.end feature place.Here).value
+        ≡ (held_of (plays C.control w way).world.server.end feature place.There).value)
+        × (((held_of (plays C.control w way).world.client.end feature place.There).stand ≡ Stable)
+        × (((held_of (plays C.control w way).world.server.end feature place.Here).stand ≡ Stable)
+        × ((held_of (plays C.control w way).world.client.end feature place.There).value
+        ≡ (held_of (plays C.control w way).world.server.end feature place.Here).value)))))))) }
 {
     negotiations_settle::<C>();
 }

@@ -4,7 +4,9 @@ ghost use Rattle.std.specs.Prelude.{◌≡◌, ◌≢◌, ◌⊎◌, ℕ, ◌+�
 ghost use Rattle.ack_vectors.specs.Vector.{is_whole_under};
 ghost use Rattle.congestion_trait.specs.Flight.{Has};
 ghost use Rattle.congestion_trait.specs.declared.flight.Standing.TheVariants.{Reported};
+ghost use Rattle.dccp_endpoint.specs.Drafts.{Fits};
 ghost use Rattle.dccp_endpoint.specs.End.{floor_of, held_of};
+ghost use Rattle.dccp_endpoint.specs.declared.config.Config.{Config};
 ghost use Rattle.dccp_options.specs.Vectors.{is_received, state_at};
 ghost use Rattle.dccp_packets.specs.Grammar.{Parts, packet_type};
 ghost use Rattle.dccp_packets.specs.declared.header.PacketType.TheVariants as types;
@@ -19,25 +21,30 @@ ghost use Rattle.run_list.specs.MarkedSet.{has};
 ghost use Rattle.seq_circle.specs.Circle.{IsBefore};
 ghost use Rattle.seq_circle.specs.Counts.{number_of};
 ghost use Rattle.two_ends.specs.CameOf.{CameOfLists, CameOfLocation};
-ghost use Rattle.two_ends.specs.Controlled.{ControlledWorld, congestion_of};
+ghost use Rattle.two_ends.specs.Controlled.{ControlledWorld, begins_with, congestion_of};
 ghost use Rattle.two_ends.specs.Counted.{AreAmongFirst, AreResets};
+ghost use Rattle.two_ends.specs.Delivered.{frames_delivered};
 ghost use Rattle.two_ends.specs.Frames.{packet_of};
 ghost use Rattle.two_ends.specs.Negotiated.{HasSent, IsNotNegotiable, IsServerPriority, IsSettled, last_list_sent, last_value, list_said, pair_was_negotiated, value_said};
+ghost use Rattle.two_ends.specs.Numbered.{Facts};
 ghost use Rattle.two_ends.specs.Pairs.{FeatureAt, held_at, said_by};
 ghost use Rattle.two_ends.specs.Reached.{ReachedByEvents};
 ghost use Rattle.two_ends.specs.Reported.{HasSentVector, IsSpokenOf, IsUntold, processed_by};
+ghost use Rattle.two_ends.specs.Safe.{Safe};
 ghost use Rattle.two_ends.specs.World.{half_of};
 ghost use Rattle.two_ends.specs.declared.frames.SentFrame.{SentFrame};
 ghost use Rattle.world_events.specs.Actors.{other};
+ghost use Rattle.world_events.specs.declared.event.Event.{Event};
 ghost use Rattle.world_events.specs.declared.event.Event.TheVariants as events;
 ghost use Rattle.world_events.specs.declared.event.Side.{Side};
 ghost use Rattle.world_events.specs.declared.event.Side.TheVariants.{Client, Server};
 
 use congestion_trait::Congestion;
 use two_ends::{
-    Event, Seen, World, WorldFault, delivered_data_are_those_of_their_frame, every_run_is_safe,
-    no_number_is_processed_again, settled_features_are_alike, values_come_from_both_sides,
-    vectors_tell_what_was_processed, what_is_reported_arrived, what_none_told_is_far_below,
+    Event, Seen, World, WorldFault, data_are_delivered_once,
+    delivered_data_are_those_of_their_frame, every_run_is_safe, no_number_is_processed_again,
+    settled_features_are_alike, values_come_from_both_sides, vectors_tell_what_was_processed,
+    what_is_reported_arrived, what_none_told_is_far_below,
 };
 
 /// *agree*: if a feature is settled at both ends, they hold one value (`clients`, `servers`): the first of the server's
@@ -133,15 +140,27 @@ pub fn each_number_is_processed_once<C: Congestion>()
     what_is_reported_arrived::<C>();
 }
 
+/// Of all frames whose data a list of events delivers, no two are the same.
+pub fn no_data_are_delivered_again<C: Congestion>()
+    ensures { (client server : Config) (for_client for_server : C) (events : List Event) (i j : ℕ) (frame : Side × ℕ) → Fits client → Fits server
+        → slice_get (frames_delivered C.control (begins_with C.control client server for_client for_server) events) i ≡ Some frame
+        → slice_get (frames_delivered C.control (begins_with C.control client server for_client for_server) events) j ≡ Some frame → i ≡ j }
+{
+    data_are_delivered_once::<C>();
+}
+
 /// A step that delivers data delivers those of a frame that arrives, a Data or a DataAck: all bytes from a place up to
-/// the frame's end, which are its payload; and after it the receiver has processed the frame's number.
+/// the frame's end, which are its payload; and after it the receiver has processed the frame's number (`delivers`).
+/// Every step leaves a safe world, with all its facts (`safe`, `facts`).
 pub fn stepped<C: Congestion>(world: &mut World<C>, event: &Event) -> Result<Seen, WorldFault>
-    ensures { (begins ends : ℕ) → result ≡ Ok (seens.Received (outcomes.Took (Some (begins, ends))))
+    ensures delivers { (begins ends : ℕ) → result ≡ Ok (seens.Received (outcomes.Took (Some (begins, ends))))
         → (from : Side) × ((index : ℕ) × ((frame : SentFrame) × ((packet : Parts) × ((event.now ≡ events.Deliver from index)
         × ((slice_get (half_of world.old.world from).frames index ≡ Some frame) × ((packet_of frame.bytes ≡ Some packet)
         × (((packet_type packet.header.kind ≡ types.Data) ⊎ (packet_type packet.header.kind ≡ types.DataAck))
         × ((drop begins frame.bytes ≡ packet.payload) × ((ends ≡ length frame.bytes)
         × ((half_of world.new.world (other from)).processed ≡ (half_of world.old.world (other from)).processed ++ frame.number ∷ [])))))))))) }
+    ensures safe { Safe C.control world.new }
+    ensures facts { Facts world.new.world }
 {
     delivered_data_are_those_of_their_frame::<C>();
     world.step(event)

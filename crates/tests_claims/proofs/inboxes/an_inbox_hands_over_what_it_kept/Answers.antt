@@ -16,3 +16,9 @@ returns-clause-held c = λ capacity calls.
 pub returns-clause-within : goal.returns-clause-within
 returns-clause-within c = λ capacity calls more.
     let within = (c.what_is_kept_is_taken.ensures.accounted capacity calls).within in omega (arith, within, more)
+
+pub returns-clause-stopped : goal.returns-clause-stopped
+returns-clause-stopped c = λ capacity calls. (c.what_is_kept_is_taken.ensures.accounted capacity calls).was_stopped
+
+pub returns-clause-drops : goal.returns-clause-drops
+returns-clause-drops c = λ capacity calls. (c.what_is_kept_is_taken.ensures.accounted capacity calls).last_drops

@@ -21,7 +21,17 @@ returns g c = λ w reached paired opened room.
         passive-way g.C.Congestion.control 24 w goal_is way,
         elim way.leads [
           | inl ended ↦ inl (an-end-over _ ended)
-          | inr agreed ↦ inr (λ feature. (agreed.are_settled Client feature Here, (agreed.are_settled Server feature There, agreed.hold_one_value feature Here)))
+          | inr agreed ↦ inr
+              (λ feature. (
+                agreed.are_settled Client feature Here,
+                (
+                  agreed.are_settled Server feature There,
+                  (
+                    agreed.hold_one_value feature Here,
+                    (agreed.are_settled Client feature There, (agreed.are_settled Server feature Here, agreed.hold_one_value feature There)),
+                  ),
+                ),
+              ))
         ],
       ),
     )
