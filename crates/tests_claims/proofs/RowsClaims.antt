@@ -1,6 +1,6 @@
 -- Rows of the words that README's claims share with their laws: each row says what such a word means, and holds no longer if the word says less, or
 -- more where it is a premise.
-use Rattle.std.proofs.Common.{◌≡◌, refl, sym, ℕ, ◌^◌, ◌<◌, ◌≤◌, true, List, [], ◌∷◌, ◌++◌, Option, Some, None, Ok}
+use Rattle.std.proofs.Common.{◌≡◌, refl, sym, ℕ, ◌^◌, ◌<◌, ◌≤◌, true, false, List, [], ◌∷◌, ◌++◌, Option, Some, None, Ok}
 use Rattle.std.specs.Prelude.{Contains, codes, slice_get}
 use Rattle.std.specs.List.Sorted.{IsStrictlySortedBy}
 use Rattle.std.specs.Map.{keys_of}
@@ -24,23 +24,30 @@ use Rattle.dccp_packets.specs.declared.header.PacketType.TheVariants as types
 use Rattle.dccp_states.specs.declared.outcome.Outcome.TheVariants as outcome
 use Rattle.dccp_states.specs.declared.phase.Role.TheVariants as role
 use Rattle.dccp_states.specs.declared.seen.Seen.TheVariants as seen
+use Rattle.feature_lists.specs.Features.{initial_of}
 use Rattle.feature_lists.specs.Lists.{IsFirstShared, SharesNothing}
 use Rattle.feature_machine.specs.Lists.{IsLists}
+use Rattle.feature_machine.specs.declared.row.Row.{Row}
+use Rattle.feature_machine.specs.declared.stands.Stand.TheVariants.{Stable, Unstable}
 use Rattle.run_list.specs.MarkedSet.{has}
 use Rattle.seq_circle.specs.Circle.{IsFrom, IsWithin}
 use Rattle.seq_circle.specs.Counts.{number_of}
 use Rattle.tool_jobs.specs.Calls.{read_call}
 use Rattle.tool_jobs.specs.PeerLines.{exchange_said, said_by_line, said_next}
 use Rattle.tool_jobs.specs.Telling.{Exchange}
+use Rattle.two_ends.specs.Asked.{KeepsInitialValues, SendsWhatIsAsked, row_for}
 use Rattle.two_ends.specs.CameOf.{CameOfLists, CameOfLocation}
 use Rattle.two_ends.specs.Controlled.{ControlledStep, ControlledWorld, begins_with, controlled_after, happens_to, plays}
 use Rattle.two_ends.specs.Counted.{AreAmongFirst, AreResets}
 use Rattle.two_ends.specs.Delivered.{delivered_by, frame_delivered, frames_delivered}
+use Rattle.two_ends.specs.FeatureRows.{entries_of}
 use Rattle.two_ends.specs.Frames.{options_in, packet_of}
-use Rattle.two_ends.specs.Negotiated.{list_said, value_said}
-use Rattle.two_ends.specs.Pairs.{FeatureAt, said_by}
+use Rattle.two_ends.specs.Negotiated.{HasSent, IsServerPriority, last_list_sent, list_said, pair_was_negotiated, value_said}
+use Rattle.two_ends.specs.Pairs.{FeatureAt, held_at, said_by}
+use Rattle.two_ends.specs.Preferred.{WantsValues}
 use Rattle.two_ends.specs.Reached.{ReachedByEvents}
 use Rattle.two_ends.specs.Reported.{HasSentVector, IsSpokenOf, IsUntold, processed_by}
+use Rattle.two_ends.specs.Shared.{IsShared, reconciled_for}
 use Rattle.two_ends.specs.World.{Half, WorldState, half_of}
 use Rattle.two_ends.specs.declared.frames.SentFrame.{SentFrame}
 use Rattle.two_ends_progress.specs.Paired.{AreForEachOther}
@@ -192,3 +199,22 @@ ends_for_each_other client server to_server from_client at_server to_client =
       there = record { addresses = to_server; source = from_client; target = at_server };
       back = record { addresses = to_client; source = sym at_server; target = sym from_client };
     }
+
+-- a value that changes is the first that a side's active list and one of the other side share
+how_a_listed_value_changes : (old new : WorldState) (pair : FeatureAt) (side : Side) (is : IsShared old new pair side)
+    → HasSent old pair (other side) is.theirs
+    × (reconciled_for side (entries_of (row_for old pair side).active) is.theirs ≡ Some (held_at new pair side).value)
+how_a_listed_value_changes old new pair side is = (is.was_sent, is.is_first)
+
+what_was_asked_is_sent : (w : WorldState) (pair : FeatureAt) (side : Side) (is : SendsWhatIsAsked w pair side)
+    → (IsServerPriority pair → (list : List ℕ) → last_list_sent w pair side ≡ Some list → list ≡ entries_of (row_for w pair side).active)
+    × ((held_at w pair side).stand ≡ Stable → (row_for w pair side).pending ≡ None)
+what_was_asked_is_sent w pair side is = (is.last_is_active, is.nothing_waits)
+
+what_a_row_wants : (row : Row) (values : List ℕ) (is : WantsValues row values)
+    → ((row.stand ≡ Unstable → ⊥) → entries_of row.active ≡ values) × (row.stand ≡ Unstable → entries_of row.pending ≡ values)
+what_a_row_wants row values is = (is.active, is.waiting)
+
+what_no_frame_asks_for : (w : WorldState) → KeepsInitialValues w → (pair : FeatureAt) (side : Side) → pair_was_negotiated w pair ≡ false
+    → (held_at w pair side).value ≡ initial_of pair.feature
+what_no_frame_asks_for w keeps = keeps

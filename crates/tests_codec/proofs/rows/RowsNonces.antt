@@ -1,7 +1,8 @@
 -- Worked nonces, computed from the definitions: what a receiver reports of the packets that came, what a ledger of the nonces that were sent
 -- answers, and both in one world. The values are worked out by hand from RFC 4340, sections 11.4 and 12.2, with the own counts of 2,048 numbers
 -- and 4,096 nonces.
-use Rattle.std.proofs.Common.{◌≡◌, refl, ℕ, ◌+◌, ◌-◌, ◌*◌, zero, suc, Bool, true, false, List, [], ◌∷◌, ◌++◌, replicate, slice_get, take, Some, None, Result, Ok, Err}
+use Rattle.std.proofs.Common.{◌≡◌, refl, ℕ, ◌+◌, ◌-◌, ◌*◌, ◌≤◌, zero, suc, Bool, true, false, List, [], ◌∷◌, ◌++◌, length, replicate, slice_get, take, Some, None, Result, Ok, Err}
+use Rattle.std.specs.Prelude.{◌↔◌}
 use Rattle.std.specs.List.{concat}
 use Prim.Native.String.{String}
 use Rattle.run_list.specs.MarkedSet.{answer_to}
@@ -10,7 +11,7 @@ use Rattle.run_list.specs.declared.answers.Marked.TheVariants.{New, Again, Below
 use Rattle.dccp_ecn.specs.Arrivals.{Arrivals, arrivals, arrivals_by, none_arrived, taken_in}
 use Rattle.dccp_ecn.specs.EcnVector.{ecn_bytes, ecn_kind, is_ecn_whole}
 use Rattle.dccp_ecn.specs.Ledger.{Ledger, ledger, vector_checked, with_nonce_sent}
-use Rattle.dccp_ecn.specs.World.{EcnState, EcnStep, ecn_begins, happens_by, state_after}
+use Rattle.dccp_ecn.specs.World.{EcnState, EcnStep, HasNoRoom, ecn_begins, happens_by, most_sent, state_after}
 use Rattle.dccp_ecn.specs.declared.arrived.Arrived.{Arrived}
 use Rattle.dccp_ecn.specs.declared.arrived.Arrived.TheVariants as came
 use Rattle.dccp_ecn.specs.declared.event.EcnEvent.{EcnEvent}
@@ -211,3 +212,9 @@ reported_up_to_the_greatest : Happens (
     (event.Report, Ok (seen.Reported (Some 0))) ∷ (event.Check 0, Ok (Checked Fits)) ∷ (event.Check 1, Err NoSuchFrame) ∷ [])
     2 38 "01"
 reported_up_to_the_greatest = (refl, refl)
+
+-- a world has room for 2^46 packets, and for as many reports
+room_of_a_world : (w : EcnState) (nonce : Bool)
+    → (most_sent ≡ 70368744177664) × ((70368744177664 ≤ length w.sent) ↔ HasNoRoom w (event.Send nonce))
+    × ((70368744177664 ≤ length w.reports) ↔ HasNoRoom w event.Report)
+room_of_a_world w nonce = (refl, (λ full. full, λ full. full), (λ full. full, λ full. full))
