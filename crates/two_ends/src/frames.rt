@@ -54,6 +54,7 @@ pub struct SentFrame {
 
 /// Takes all memory that keeping one more frame may need: a place in the list, and room for a frame of any length in
 /// the spare block.
+#[inline(always)]
 pub(crate) fn take_memory(frames: &mut Vec<SentFrame>, spare: &mut Vec<u8>) -> Result<(), NoMemory>
     requires empty { spare.old.items ≡ [] }
     ensures same { frames.new.items ≡ frames.old.items }

@@ -101,6 +101,7 @@ impl<C: Congestion> HalfWorld<C> {
     // One call of the end, which processes no number. All memory that the step may need is taken before the end is
     // touched.
     #[tactic(auto, using(crate::proofs::OfWorlds::Processing::calls_process_nothing))]
+    #[inline(always)]
     pub(crate) fn call(&mut self, call: UserCall<'_>) -> Result<Seen, NoMemory>
         ensures ok { IfOk result (λ seen. record { after = self.new; seen = seen } ≡ controlled_half_steps C.control self.old None (input_said call.entry (said_by C.control self.old.congestion))) }
         ensures err { OnErr result (self.new ≡ self.old) }

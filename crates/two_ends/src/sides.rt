@@ -67,7 +67,9 @@ impl<C: Congestion> Sides<C> {
         }
     }
 
-    // One event: exactly what `happens_to` says, unless memory runs out.
+    // One event: exactly what `happens_to` says, unless memory runs out. What it calls is inlined down to a step of a
+    // side, since each call between would copy the answer.
+    #[inline(always)]
     pub(crate) fn step(&mut self, event: &Event) -> Result<Seen, WorldFault>
         ensures ok { IfOk result (λ seen. happens_to C.control self.old event.now ≡ Ok (record { after = self.new; seen = seen })) }
         ensures no_such_frame { (result ≡ Err WorldFault.NoSuchFrame) ↔ (happens_to C.control self.old event.now ≡ Err WorldFault.NoSuchFrame) }
@@ -102,6 +104,7 @@ impl<C: Congestion> Sides<C> {
     }
 
     // A frame of one side arrives at the other.
+    #[inline(always)]
     fn deliver(&mut self, from: Side, index: u64) -> Result<Seen, WorldFault>
         ensures ok { IfOk result (λ seen. controls C.control self.old (other from) (takes_place self.old.world (Delivers from index)) ≡ Ok (record { after = self.new; seen = seen })) }
         ensures no_such_frame { (result ≡ Err WorldFault.NoSuchFrame) ↔ (slice_get (half_of self.old.world from).frames index ≡ None) }
@@ -156,6 +159,7 @@ fn call_half<C: Congestion>(half: &mut HalfWorld<C>, call: UserCall<'_>) -> Resu
     }
 }
 
+#[inline(always)]
 fn deliver<C: Congestion>(
     frames: &[SentFrame],
     index: u64,
@@ -175,6 +179,7 @@ fn deliver<C: Congestion>(
     }
 }
 
+#[inline(always)]
 fn receive_half<C: Congestion>(
     half: &mut HalfWorld<C>,
     frame: &SentFrame,

@@ -113,6 +113,7 @@ impl<C: Congestion> World<C> {
     /// ([`data_are_delivered_once`]).
     ///
     /// After it, refused or not, the world is safe, and the facts at [`World`] hold.
+    #[inline(always)]
     pub fn step(&mut self, event: &Event) -> Result<Seen, WorldFault>
         ensures ok { IfOk result (λ seen. happens_to C.control self.old event.now ≡ Ok (record { after = self.new; seen = seen })) }
         ensures no_such_frame { (result ≡ Err WorldFault.NoSuchFrame) ↔ (happens_to C.control self.old event.now ≡ Err WorldFault.NoSuchFrame) }
