@@ -10,7 +10,8 @@ use Rattle.tool_text.specs.Ends.{HasBegun, IsCutOff, IsMovedOut}
 use Rattle.tool_text.specs.declared.output.status.JobEnd.TheVariants as ended
 use Rattle.tool_text.proofs.Ending.{answers-early, append-none, append-twice, begun-after, begun-longer, not-both}
 use Rattle.capture_reader.proofs.Opening.{passed-ahead}
-use Rattle.bridge_records.specs.Pieces.{Goes, GoesThroughPieces, Judgement, JudgesPiece, Piece, PieceWork, Stops, PiecesResult, by_next_piece, done_by, unended, in_front, most_piece_bytes, next_piece, piece_text, pieces_from, pieces_of, taken_by, taken_so_far, text_of_pieces, end_piece}
+use Rattle.tool_text.specs.Jobs.{deeds_of}
+use Rattle.bridge_records.specs.Pieces.{Goes, GoesThroughPieces, Judgement, JudgesPiece, Piece, PieceWork, Stops, PiecesResult, by_next_piece, unended, in_front, most_piece_bytes, next_piece, piece_text, pieces_from, pieces_of, taken_by, taken_so_far, text_of_pieces, end_piece}
 use Rattle.bridge_records.specs.Turns.{LeavesText}
 use Rattle.bridge_records.specs.declared.pieces.fault.PieceFault.{PieceFault}
 use Rattle.bridge_records.specs.declared.pieces.fault.PieceFault.TheVariants.{CutShort}
@@ -54,18 +55,18 @@ module _ {P V : Type 0} (job : PieceWork P V) (first : V) where
   front-twice : (deeds more : List P) (rest : PiecesResult P V) → in_front deeds (in_front more rest) ≡ in_front (deeds ++ more) rest
   front-twice deeds more rest = ap (λ (all : List P). record rest { deeds = all }) (sym (append_assoc deeds more rest.deeds))
 
-  piece-told : (deed : Option P) → piece_text job deed ≡ flat_map job.told (done_by deed)
+  piece-told : (deed : Option P) → piece_text job deed ≡ flat_map job.told (deeds_of deed)
   piece-told None = refl
   piece-told (Some deed) = sym (append-nil (job.told deed))
 
   told-more : (written text after : List ℕ) (deeds : List P) (deed : Option P) → written ++ text ≡ flat_map job.told deeds → after ≡ text ++ piece_text job deed
-      → written ++ after ≡ flat_map job.told (deeds ++ done_by deed)
+      → written ++ after ≡ flat_map job.told (deeds ++ deeds_of deed)
   told-more written text after deeds deed told put =
       ap (λ (more : List ℕ). written ++ more) put
       ∙ sym (append_assoc written text (piece_text job deed))
       ∙ ap (λ (whole : List ℕ). whole ++ piece_text job deed) told
       ∙ ap (λ (more : List ℕ). flat_map job.told deeds ++ more) (piece-told deed)
-      ∙ sym (flat_map-append job.told deeds (done_by deed))
+      ∙ sym (flat_map-append job.told deeds (deeds_of deed))
 
   accepted-piece : (state next : V) (given further : ℕ) (left following : Option (List ℕ)) (text after : List ℕ) (before taken : Option (List ℕ)) (input : List ℕ)
       (along : Along job first state given left text before taken input) (judgement : Judgement P V)
@@ -76,14 +77,14 @@ module _ {P V : Type 0} (job : PieceWork P V) (first : V) where
   accepted-piece state next given further left following text after before taken input along (Stops why) is goes judges = cc judges.2
   accepted-piece state next given further left following text after before taken input along (Goes deed onward) is goes judges = record {
     written = along.written;
-    deeds = along.deeds ++ done_by deed;
+    deeds = along.deeds ++ deeds_of deed;
     rest_is = is;
     taken_is = along.taken_is;
     whole =
         along.whole
         ∙ ap (in_front along.deeds) goes
-        ∙ front-twice along.deeds (done_by deed) (pieces_from job 0 onward further (drop further input))
-        ∙ ap (λ (v : V). in_front (along.deeds ++ done_by deed) (pieces_from job 0 v further (drop further input))) (sym judges.1);
+        ∙ front-twice along.deeds (deeds_of deed) (pieces_from job 0 onward further (drop further input))
+        ∙ ap (λ (v : V). in_front (along.deeds ++ deeds_of deed) (pieces_from job 0 v further (drop further input))) (sym judges.1);
     told = told-more along.written text after along.deeds deed along.told judges.0;
   }
 

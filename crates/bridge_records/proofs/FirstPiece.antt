@@ -1,6 +1,7 @@
 -- What comes next in an input, and the pieces after it.
 use Rattle.std.proofs.Common.{arith, ◌≡◌, refl, sym, ap, ◌∙◌, ℕ, zero, suc, ◌+◌, ◌-◌, ◌≤◌, ◌<◌, List, [], ◌∷◌, length, drop}
-use Rattle.bridge_records.specs.Pieces.{Goes, Judgement, PieceWork, Stops, PiecesResult, by_next_piece, done_by, in_front, next_piece, pieces_from, taken_by}
+use Rattle.tool_text.specs.Jobs.{deeds_of}
+use Rattle.bridge_records.specs.Pieces.{Goes, Judgement, PieceWork, Stops, PiecesResult, by_next_piece, in_front, next_piece, pieces_from, taken_by}
 
 -- the first bytes belong to the piece before
 skipped-bytes : {P V : Type 0} (job : PieceWork P V) (skip : ℕ) (state : V) (given : ℕ) (bytes : List ℕ)
@@ -12,7 +13,7 @@ skipped-bytes job (suc skip) state given (byte ∷ bytes) = skipped-bytes job sk
 -- what follows an accepted piece may be said otherwise
 followed-by : {P V : Type 0} (state : V) (given : ℕ) (judgement : Judgement P V) (rest other : V → PiecesResult P V) → ((next : V) → rest next ≡ other next)
     → taken_by state given judgement rest ≡ taken_by state given judgement other
-followed-by state given (Goes deed next) rest other same = ap (in_front (done_by deed)) (same next)
+followed-by state given (Goes deed next) rest other same = ap (in_front (deeds_of deed)) (same next)
 followed-by state given (Stops why) rest other same = refl
 
 -- where some bytes are left, what comes next is judged, and then the pieces after it

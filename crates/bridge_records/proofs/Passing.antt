@@ -15,7 +15,8 @@ use Rattle.capture_reader.specs.declared.format.Order.{Order}
 use Rattle.capture_reader.specs.declared.format.Order.TheVariants.{Big, Little}
 use Rattle.capture_reader.proofs.Capture.{read-capture}
 use Rattle.capture_reader.specs.declared.record.RecordHeader.{RecordHeader}
-use Rattle.bridge_records.specs.Pieces.{Goes, GoesThroughPieces, Judgement, PieceNext, PieceWork, PiecesResult, by_next_piece, done_by, in_front, pieces_from, taken_by}
+use Rattle.tool_text.specs.Jobs.{deeds_of}
+use Rattle.bridge_records.specs.Pieces.{Goes, GoesThroughPieces, Judgement, PieceNext, PieceWork, PiecesResult, by_next_piece, in_front, pieces_from, taken_by}
 use Rattle.bridge_records.proofs.Along.{piece-there}
 use Rattle.bridge_records.proofs.FirstPiece.{pieces-cut}
 use Rattle.bridge_records.specs.declared.pieces.fault.PieceFault.{PieceFault}
@@ -37,11 +38,11 @@ use Rattle.bridge_records.proofs.Opening.{IsTaken, header-taken}
 -- what a job does with these records, one after the other
 abbrev pub deeds_along : {P V : Type 0} → RecordWork P V → V → List RecordParts → List P
 deeds_along work job [] = []
-deeds_along work job (entry ∷ entries) = done_by (work.passed job entry).deed ++ deeds_along work (work.passed job entry).next entries
+deeds_along work job (entry ∷ entries) = deeds_of (work.passed job entry).deed ++ deeds_along work (work.passed job entry).next entries
 
 -- what it does with a capture of them, whose fractions are nanoseconds or microseconds
 abbrev pub deeds_from : {P V : Type 0} → RecordWork P V → V → Bool → List RecordParts → List P
-deeds_from work first nanos entries = done_by (work.begun first nanos).deed ++ deeds_along work (work.begun first nanos).next entries
+deeds_from work first nanos entries = deeds_of (work.begun first nanos).deed ++ deeds_along work (work.begun first nanos).next entries
 
 -- where a job begins may be said otherwise
 module _ {P V : Type 0} (job : PieceWork P V) where
@@ -130,7 +131,7 @@ module _ {P V : Type 0} (work : RecordWork P V) (format : Format) where
 
   -- the same after a record
   abbrev passing : ℕ → V → RecordParts → ℕ → List ℕ → PiecesResult P (RecordsState V)
-  passing n job entry given bytes = in_front (done_by (work.passed job entry).deed) (onward given (here (one_more n) (work.passed job entry).next) bytes)
+  passing n job entry given bytes = in_front (deeds_of (work.passed job entry).deed) (onward given (here (one_more n) (work.passed job entry).next) bytes)
 
   -- a header's numbers, read from its piece
   head-read : (bytes header following : List ℕ) → bytes ≡ header ++ following → length header ≡ 16 → (at : ℕ) → at + 4 ≤ 16
@@ -272,7 +273,7 @@ module _ {P V : Type 0} (work : RecordWork P V) (format : Format) where
       subst (ArePassed work job (entry ∷ entries))
       (sym (record-piece number given job bytes r.body rest (omega (arith, whole, joined, r.header_length)) following captured r.fits r.counts
       ∙ ap (λ (e : RecordParts). passing number job e (given + (16 + length r.body)) rest) (entry-same number given entry rest bytes r few)))
-      (record { refusal = others.refusal; deeds = ap (λ (deeds : List P). done_by (work.passed job entry).deed ++ deeds) others.deeds })
+      (record { refusal = others.refusal; deeds = ap (λ (deeds : List P). deeds_of (work.passed job entry).deed ++ deeds) others.deeds })
 
   -- the file header begins the capture
   start-judged : (first : V) (piece : List ℕ) → classic_format piece ≡ Ok format → (ordered_number_at Big 0 4 piece == section_block) ≡ false
@@ -284,7 +285,7 @@ module _ {P V : Type 0} (work : RecordWork P V) (format : Format) where
       ∙ ap (λ (r : Result Format FormatFault). by_judged work (first_reading first) piece (by_format first_file r)) taken
 
   input-begun : (first : V) (input : List ℕ) → IsTaken input format
-      → records_of work first input ≡ in_front (done_by (work.begun first format.nanos).deed)
+      → records_of work first input ≡ in_front (deeds_of (work.begun first format.nanos).deed)
       (onward 24 (here 0 (work.begun first format.nanos).next) (drop 24 input))
   input-begun first input is =
       let one : 1 ≤ 24 = omega arith in
@@ -305,7 +306,7 @@ module _ {P V : Type 0} (work : RecordWork P V) (format : Format) where
       let are = all-passed records 0 24 (work.begun first format.nanos).next (drop 24 input) (omega arith) here_has in
       let begun = input-begun first input (header-taken input format told_so) in (
         ap (λ (t : PiecesResult P (RecordsState V)). t.refusal) begun ∙ are.refusal,
-        ap (λ (t : PiecesResult P (RecordsState V)). t.deeds) begun ∙ ap (λ (deeds : List P). done_by (work.begun first format.nanos).deed ++ deeds) are.deeds,
+        ap (λ (t : PiecesResult P (RecordsState V)). t.deeds) begun ∙ ap (λ (deeds : List P). deeds_of (work.begun first format.nanos).deed ++ deeds) are.deeds,
       )
 
 -- Of a capture that a reader of captures takes, which has no fault, each record that it finds is handed to the job, in

@@ -1,6 +1,7 @@
 -- What a job makes of the pieces of an input, and what is written of it (own).
 use Rattle.std.specs.Prelude.{◌≡◌, ℕ, zero, suc, ◌+◌, ◌-◌, ◌^◌, ◌++◌, nat_lt, Bool, is_some, if◌then◌else◌, List, [], ◌∷◌, length, take, flat_map, Option, Some, None, Result, Ok, Err}
 use Rattle.tool_text.specs.Ends.{Answers, IsAnswered, StopsWithin}
+use Rattle.tool_text.specs.Jobs.{deeds_of}
 use Rattle.bridge_records.specs.declared.pieces.fault.PieceError.{PieceError}
 use Rattle.bridge_records.specs.declared.pieces.fault.PieceError.TheVariants as piece_error
 use Rattle.bridge_records.specs.declared.pieces.fault.PieceFault.{PieceFault}
@@ -73,11 +74,6 @@ pub record PiecesResult (P V : Type 0) : Type 0 where
   pub accepted : ℕ
   pub refusal : Option PieceFault
 
--- the list of one deed, or of none
-abbrev pub done_by : {P : Type 0} → Option P → List P
-done_by None = []
-done_by (Some deed) = deed ∷ []
-
 -- these deeds, in front of those of the following pieces
 abbrev pub in_front : {P V : Type 0} → List P → PiecesResult P V → PiecesResult P V
 in_front deeds rest = record rest { deeds = deeds ++ rest.deeds }
@@ -88,7 +84,7 @@ taken_so_far state given refusal = record { deeds = []; last = state; accepted =
 
 -- the pieces after an accepted one count too; a refused one is the last
 abbrev pub taken_by : {P V : Type 0} → V → ℕ → Judgement P V → (V → PiecesResult P V) → PiecesResult P V
-taken_by state given (Goes deed next) rest = in_front (done_by deed) (rest next)
+taken_by state given (Goes deed next) rest = in_front (deeds_of deed) (rest next)
 taken_by state given (Stops why) rest = taken_so_far state given (Some why)
 
 -- why an input is refused that may not end at this place
