@@ -1,14 +1,10 @@
 -- The numbers by which C and the library name results, timers and places (own).
 use Rattle.std.specs.Prelude.{ℕ, ◌==◌, Bool, true, false, Option, Some, None, Result, Ok, Err, if◌then◌else◌}
-use Rattle.dccp_states.specs.declared.calls.AbortFault.{AbortFault}
-use Rattle.dccp_states.specs.declared.calls.AbortFault.TheVariants.{NotLive}
-use Rattle.dccp_states.specs.declared.calls.CloseFault.{CloseFault}
-use Rattle.dccp_states.specs.declared.calls.CloseFault.TheVariants as close
-use Rattle.dccp_states.specs.declared.calls.OpenFault.{OpenFault}
-use Rattle.dccp_states.specs.declared.calls.OpenFault.TheVariants.{NotFresh}
-use Rattle.dccp_states.specs.declared.calls.SendFault.TheVariants as send
+use Rattle.dccp_states.specs.Refusals.{refusal_of, send_refusal_of}
 use Rattle.dccp_states.specs.declared.calls.Timer.{Timer}
 use Rattle.dccp_states.specs.declared.calls.Timer.TheVariants as timers
+use Rattle.dccp_states.specs.declared.seen.Refusal.{Refusal}
+use Rattle.dccp_states.specs.declared.seen.Refusal.TheVariants as refusal
 use Rattle.dccp_uses.specs.declared.reader.Restraint.{Restraint}
 use Rattle.dccp_uses.specs.declared.reader.Restraint.TheVariants as restraint
 use Rattle.dccp_uses.specs.declared.reader.SendRefusal.{SendRefusal}
@@ -16,45 +12,38 @@ use Rattle.dccp_uses.specs.declared.reader.SendRefusal.TheVariants as refusals
 use Rattle.feature_lists.specs.declared.features.Place.{Place}
 use Rattle.feature_lists.specs.declared.features.Place.TheVariants.{Here, There}
 use Rattle.feature_lists.specs.declared.wishes.PreferFault.{PreferFault}
-use Rattle.feature_lists.specs.declared.wishes.PreferFault.TheVariants as prefer
 use Rattle.feature_machine.specs.declared.stands.Stand.{Stand}
 use Rattle.feature_machine.specs.declared.stands.Stand.TheVariants as stands
 
--- the code of opening: 0, or 3 if the end was not fresh
-abbrev pub open_code : Result (Unit {0}) OpenFault → ℕ
-open_code (Ok _) = 0
-open_code (Err NotFresh) = 3
+-- the code of a refusal
+abbrev pub refusal_code : Refusal → ℕ
+refusal_code refusal.NotFresh = 3
+refusal_code refusal.NotOpen = 4
+refusal_code refusal.TooLong = 5
+refusal_code refusal.NotNegotiated = 6
+refusal_code refusal.WindowFull = 7
+refusal_code refusal.BadList = 8
+refusal_code refusal.NotOurs = 9
+refusal_code refusal.NotLive = 10
+
+-- the code of a call: 0, or that of its fault
+abbrev pub called_code : {Fault : Type 0} → (Fault → ℕ) → Result (Unit {0}) Fault → ℕ
+called_code code (Ok _) = 0
+called_code code (Err fault) = code fault
 
 -- the code of data that have to wait: 23 if the application no longer listens, otherwise that of a full window
 abbrev pub restraint_code : Restraint → ℕ
 restraint_code restraint.NotListening = 23
 restraint_code restraint.Full = 7
 
--- the code of sending, one for each refusal
-abbrev pub send_code : Result (Unit {0}) SendRefusal → ℕ
-send_code (Ok _) = 0
-send_code (Err (refusals.Held why)) = restraint_code why
-send_code (Err (refusals.Refused send.NotOpen)) = 4
-send_code (Err (refusals.Refused send.TooLong)) = 5
-send_code (Err (refusals.Refused send.NotNegotiated)) = 6
-send_code (Err (refusals.Refused send.WindowFull)) = 7
+-- the code of data that do not go out
+abbrev pub unsent_code : SendRefusal → ℕ
+unsent_code (refusals.Held why) = restraint_code why
+unsent_code (refusals.Refused fault) = refusal_code (send_refusal_of fault)
 
--- the code of a wish for a feature, one for each refusal
-abbrev pub wish_code : Result (Unit {0}) PreferFault → ℕ
-wish_code (Ok _) = 0
-wish_code (Err prefer.NotOpen) = 4
-wish_code (Err prefer.BadList) = 8
-wish_code (Err prefer.NotOurs) = 9
-
--- the code of closing: 0, or 4 in a phase in which there is nothing to close
-abbrev pub close_code : Result (Unit {0}) CloseFault → ℕ
-close_code (Ok _) = 0
-close_code (Err close.NotOpen) = 4
-
--- the code of aborting: 0, or 10 if there is no connection
-abbrev pub abort_code : Result (Unit {0}) AbortFault → ℕ
-abort_code (Ok _) = 0
-abort_code (Err NotLive) = 10
+-- the code of a wish that is refused
+abbrev pub unwished_code : PreferFault → ℕ
+unwished_code fault = refusal_code (refusal_of fault)
 
 -- the code of a timer that has run out: 0, or 12 if it has nothing to do
 abbrev pub timer_code : Bool → ℕ

@@ -38,15 +38,13 @@ use Rattle.server_peers.specs.declared.rules.Rules.{Rules}
 use Rattle.dccp_c.specs.declared.flow_rules.FlowRules.{FlowRules}
 use Rattle.dccp_c.specs.declared.flow_rules.FlowLife.{FlowLife}
 use Rattle.dccp_listener.specs.declared.peer.Peer.{Peer}
-use Rattle.dccp_states.specs.declared.seen.Refusal.{Refusal}
-use Rattle.dccp_states.specs.declared.seen.Refusal.TheVariants as refusal
 use Rattle.dccp_states.specs.declared.seen.Seen.{Seen}
 use Rattle.dccp_states.specs.declared.seen.Seen.TheVariants as seen
 use Rattle.dccp_packets.specs.Outgoing.{Outgoing}
 use Rattle.dccp_c.specs.Framing.{FrameFields, handed_of, nothing_handed}
 use Rattle.dccp_c.specs.Outcomes.{told_arrival, told_heard, told_outcome}
 use Rattle.dccp_c.specs.declared.told.Told.{Told}
-use Rattle.dccp_c.specs.Codes.{restraint_code, timer_code}
+use Rattle.dccp_c.specs.Codes.{called_code, refusal_code, restraint_code, timer_code}
 use Rattle.dccp_server.specs.Due.{never}
 use Rattle.dccp_c.specs.Keeping.{InnerListener}
 use Rattle.dccp_c.specs.Seeing.{seen_within}
@@ -97,21 +95,9 @@ peer_named peer = record { address = peer.address; port = peer.port }
 abbrev pub address_of : Peer → PeerAddress
 address_of peer = record { address = peer.address; port = peer.port }
 
--- the code of a refused call, as for a single end
-abbrev pub refusal_code : Refusal → ℕ
-refusal_code refusal.NotFresh = 3
-refusal_code refusal.NotOpen = 4
-refusal_code refusal.TooLong = 5
-refusal_code refusal.NotNegotiated = 6
-refusal_code refusal.WindowFull = 7
-refusal_code refusal.BadList = 8
-refusal_code refusal.NotOurs = 9
-refusal_code refusal.NotLive = 10
-
 -- the code of the answer to a call
 abbrev pub seen_code : Seen → ℕ
-seen_code (seen.Called (Ok _)) = 0
-seen_code (seen.Called (Err fault)) = refusal_code fault
+seen_code (seen.Called result) = called_code refusal_code result
 seen_code (seen.Fired applies) = timer_code applies
 seen_code (seen.Received outcome) = 0
 

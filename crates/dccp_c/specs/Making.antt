@@ -18,7 +18,7 @@ use Rattle.feature_lists.specs.declared.features.Place.{Place}
 use Rattle.feature_lists.specs.declared.wishes.PreferFault.{PreferFault}
 use Rattle.feature_lists.specs.declared.wishes.Wanted.{Wanted}
 use Rattle.feature_machine.specs.Lists.{with_offer, with_wish, without_offers}
-use Rattle.dccp_c.specs.Codes.{place_by, wish_code}
+use Rattle.dccp_c.specs.Codes.{place_by, unwished_code}
 use Rattle.dccp_c.specs.Stepping.{CEnd}
 use Rattle.dccp_c.specs.declared.making.Care.{Care}
 use Rattle.dccp_c.specs.declared.making.Settings.{Settings}
@@ -82,7 +82,7 @@ unless_refused next (Err code) = Err code
 -- a wish that an end may have is set; any other is refused with its code
 abbrev pub wished_so : Config → Feature → Place → Result Wanted PreferFault → Result Config ℕ
 wished_so config feature place (Ok wanted) = Ok (record config { lists = with_wish config.lists feature place wanted })
-wished_so config feature place (Err fault) = Err (wish_code (Err fault))
+wished_so config feature place (Err fault) = Err (unwished_code fault)
 
 -- a wish with more than eight values is refused
 abbrev pub wished_list : Config → Wish → Feature → Place → Result Config ℕ

@@ -3,6 +3,7 @@ use Rattle.std.specs.Prelude.{ℕ, Bool, List, Option}
 use Rattle.ccid_two.specs.Kinds.{Both, kinds_control}
 use Rattle.dccp_listener.specs.Chain.{Aborts, Closes, Fires, FlowCall, Opens, Prefers, Sends, SendsEarly}
 use Rattle.dccp_packets.specs.Outgoing.{Outgoing}
+use Rattle.dccp_states.specs.declared.seen.Refusal.TheVariants as refusal
 use Rattle.data_dropped.specs.Inbox.{InboxState}
 use Rattle.data_dropped.specs.declared.drops.DropEntry.{DropEntry}
 use Rattle.dccp_uses.specs.DropRecord.{drop_recorded, record_after}
@@ -10,7 +11,7 @@ use Rattle.dccp_uses.specs.Holding.{HoldingState, HoldingStep, holds_heard, step
 use Rattle.dccp_uses.specs.Timed.{TimedState, TimedStep, due_told, timed_aborts, timed_closes, timed_fires, timed_takes, timed_opens, timed_prefers, timed_sends}
 use Rattle.dccp_uses.specs.declared.holding.Reading.{Reading}
 use Rattle.dccp_uses.specs.declared.timed_end.Due.{Due}
-use Rattle.dccp_c.specs.Codes.{abort_code, close_code, open_code, send_code, timer_code, wish_code}
+use Rattle.dccp_c.specs.Codes.{called_code, refusal_code, timer_code, unsent_code, unwished_code}
 
 -- an end in C is that of a session, with CCID 2 or the fixed window
 abbrev pub CEnd : Type 0
@@ -42,12 +43,12 @@ coded code step = record { timed = step.timed; frame = step.frame; answer = code
 -- order or given up, or a timer has run out (RFC 4340, sections 8.1.1, 8.1.5, 6.6.1 and 8.3). Both kinds of data go out as soon as the phase
 -- lets them, in PARTOPEN and in OPEN (own).
 abbrev pub timed_acts : FlowCall → ℕ → TimedState Both → TimedStep Both ℕ
-timed_acts Opens now s = coded open_code (timed_opens kinds_control now s)
-timed_acts (Sends payload) now s = coded send_code (timed_sends kinds_control now s payload)
-timed_acts (SendsEarly payload) now s = coded send_code (timed_sends kinds_control now s payload)
-timed_acts (Prefers feature place values) now s = coded wish_code (timed_prefers kinds_control now s feature place values)
-timed_acts Closes now s = coded close_code (timed_closes kinds_control now s)
-timed_acts Aborts now s = coded abort_code (timed_aborts kinds_control now s)
+timed_acts Opens now s = coded (called_code (λ fault. refusal_code refusal.NotFresh)) (timed_opens kinds_control now s)
+timed_acts (Sends payload) now s = coded (called_code unsent_code) (timed_sends kinds_control now s payload)
+timed_acts (SendsEarly payload) now s = coded (called_code unsent_code) (timed_sends kinds_control now s payload)
+timed_acts (Prefers feature place values) now s = coded (called_code unwished_code) (timed_prefers kinds_control now s feature place values)
+timed_acts Closes now s = coded (called_code (λ fault. refusal_code refusal.NotOpen)) (timed_closes kinds_control now s)
+timed_acts Aborts now s = coded (called_code (λ fault. refusal_code refusal.NotLive)) (timed_aborts kinds_control now s)
 timed_acts (Fires timer) now s = coded timer_code (timed_fires kinds_control now s timer)
 
 -- the same beside its inbox and its cookie

@@ -1,11 +1,9 @@
 //! The codes that the calls return, and the numbers by which C names a feature and a timer.
 ghost use Rattle.std.specs.Prelude.{◌≡◌};
 ghost use Rattle.feature_lists.specs.Features.{feature_numbered};
-ghost use Rattle.dccp_c.specs.Codes.{abort_code, close_code, open_code, place_by, restraint_code, send_code, stand_code, timer_coded, timer_code, wish_code};
+ghost use Rattle.dccp_c.specs.Codes.{called_code, place_by, refusal_code, restraint_code, stand_code, timer_coded, timer_code, unsent_code, unwished_code};
 
-use dccp_endpoint::{
-    AbortFault, CloseFault, Feature, OpenFault, Place, PreferFault, SendFault, Stand, Timer,
-};
+use dccp_endpoint::{Feature, Place, PreferFault, Refusal, Stand, Timer};
 use dccp_uses::{Restraint, SendRefusal};
 
 /// The call was done.
@@ -80,12 +78,28 @@ pub const NO_EVENT: u32 = 22;
 /// The peer's application no longer listens: no further data will reach it.
 pub const NOT_LISTENING: u32 = 23;
 
-pub(crate) fn open_code(answer: &Result<(), OpenFault>) -> u32
-    ensures { result ≡ open_code answer.now }
+pub(crate) fn refusal_code(refusal: Refusal) -> u32
+    ensures { result ≡ refusal_code refusal }
+{
+    match refusal {
+        Refusal::NotFresh => NOT_FRESH,
+        Refusal::NotOpen => NOT_OPEN,
+        Refusal::TooLong => TOO_LONG,
+        Refusal::NotNegotiated => NOT_NEGOTIATED,
+        Refusal::WindowFull => WINDOW_FULL,
+        Refusal::BadList => BAD_LIST,
+        Refusal::NotOurs => NOT_OURS,
+        Refusal::NotLive => NOT_LIVE,
+    }
+}
+
+// The code of a call that has this one refusal.
+pub(crate) fn called_code<F: Copy>(answer: &Result<(), F>, refusal: Refusal) -> u32
+    ensures { result ≡ called_code (λ fault. refusal_code refusal) answer.now }
 {
     match answer {
         Ok(()) => DONE,
-        Err(OpenFault::NotFresh) => NOT_FRESH,
+        Err(_) => refusal_code(refusal),
     }
 }
 
@@ -99,44 +113,21 @@ pub(crate) fn restraint_code(restraint: &Restraint) -> u32
 }
 
 pub(crate) fn send_code(answer: &Result<(), SendRefusal>) -> u32
-    ensures { result ≡ send_code answer.now }
+    ensures { result ≡ called_code unsent_code answer.now }
 {
     match answer {
         Ok(()) => DONE,
         Err(SendRefusal::Held(restraint)) => restraint_code(restraint),
-        Err(SendRefusal::Refused(SendFault::NotOpen)) => NOT_OPEN,
-        Err(SendRefusal::Refused(SendFault::TooLong)) => TOO_LONG,
-        Err(SendRefusal::Refused(SendFault::NotNegotiated)) => NOT_NEGOTIATED,
-        Err(SendRefusal::Refused(SendFault::WindowFull)) => WINDOW_FULL,
+        Err(SendRefusal::Refused(fault)) => refusal_code(Refusal::from(*fault)),
     }
 }
 
 pub(crate) fn wish_code(answer: &Result<(), PreferFault>) -> u32
-    ensures { result ≡ wish_code answer.now }
+    ensures { result ≡ called_code unwished_code answer.now }
 {
     match answer {
         Ok(()) => DONE,
-        Err(PreferFault::NotOpen) => NOT_OPEN,
-        Err(PreferFault::BadList) => BAD_LIST,
-        Err(PreferFault::NotOurs) => NOT_OURS,
-    }
-}
-
-pub(crate) fn close_code(answer: &Result<(), CloseFault>) -> u32
-    ensures { result ≡ close_code answer.now }
-{
-    match answer {
-        Ok(()) => DONE,
-        Err(CloseFault::NotOpen) => NOT_OPEN,
-    }
-}
-
-pub(crate) fn abort_code(answer: &Result<(), AbortFault>) -> u32
-    ensures { result ≡ abort_code answer.now }
-{
-    match answer {
-        Ok(()) => DONE,
-        Err(AbortFault::NotLive) => NOT_LIVE,
+        Err(fault) => refusal_code(Refusal::from(*fault)),
     }
 }
 

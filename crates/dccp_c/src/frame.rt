@@ -42,11 +42,7 @@ impl Frame {
     {
         match out.sent() {
             None => self.clear(),
-            Some(sent) => {
-                self.number = sent.number.get();
-                self.length = sent.bytes.len();
-                self.bytes[..sent.bytes.len()].copy_from_slice(sent.bytes);
-            }
+            Some(sent) => self.put(sent.bytes, sent.number.get()),
         }
     }
 }

@@ -21,12 +21,11 @@ ghost use Rattle.dccp_server.specs.Rooms.{duty_frame, duty_in};
 ghost use Rattle.server_peers.specs.Strangers.{told_of_arrival};
 ghost use Rattle.dccp_c.specs.Seeing.{if_sized, sized_code};
 ghost use Rattle.dccp_c.specs.Codes.{timer_coded};
-ghost use Rattle.dccp_c.specs.Listening.{Forgets, HandsHeard, HasTakenIn, HearsDatagram, HearsIfOpen, MayDeliver, SendsUnheld, Serves, ServesIfKnown, Ticks, address_of, arrival_code, arrival_told, cookies_of, counted_of, datagram_refusal, duty_address, duty_code, duty_left, evicted_in, first_peer_in, flow_code, flow_in, flows_in, holding_in, holding_of, holds_called, holds_done, holds_forgotten, holds_on, holds_ticked, inboxes_in, known_of, life_in, listen_code, listener_waits, made_code, next_peer_in, peer_named, refusal_code, rekeyed_in, restraint_in, ruled_by, rules_of, served_in, watched_in, way_in, way_number};
+ghost use Rattle.dccp_c.specs.Listening.{Forgets, HandsHeard, HasTakenIn, HearsDatagram, HearsIfOpen, MayDeliver, SendsUnheld, Serves, ServesIfKnown, Ticks, address_of, arrival_code, arrival_told, cookies_of, counted_of, datagram_refusal, duty_address, duty_code, duty_left, evicted_in, first_peer_in, flow_code, flow_in, flows_in, holding_in, holding_of, holds_called, holds_done, holds_forgotten, holds_on, holds_ticked, inboxes_in, known_of, life_in, listen_code, listener_waits, made_code, next_peer_in, peer_named, rekeyed_in, restraint_in, ruled_by, rules_of, served_in, watched_in, way_in, way_number};
 
 use crate::codes::{
-    BAD_LIST, BUSY, DONE, GAVE_UP, NO_FLOW, NO_MEMORY, NO_NUMBER, NO_TIMER, NOT_FRESH, NOT_LIVE,
-    NOT_MADE, NOT_NEGOTIATED, NOT_OPEN, NOT_OURS, NOTHING_DUE, OTHER_SIZE, REFUSED, TOO_LONG,
-    WINDOW_FULL, restraint_code, timer_code, timer_of,
+    BUSY, DONE, GAVE_UP, NO_FLOW, NO_MEMORY, NO_NUMBER, NO_TIMER, NOT_MADE, NOTHING_DUE,
+    OTHER_SIZE, REFUSED, TOO_LONG, refusal_code, restraint_code, timer_code, timer_of,
 };
 use crate::flow_rules::{cookies_of, known_of, rules_of};
 use crate::founding::listening_by;
@@ -38,9 +37,7 @@ use crate::serving::OwnedServer;
 use crate::sizes::{FLOW_LIFE_BYTES, FLOW_RULES_BYTES, VIEW_BYTES};
 use crate::told::{Told, told_arrival, told_heard, told_outcome};
 use crate::{FlowLife, FlowRules, Key, ListenerHandle, PeerAddress, Settings, View, Wish};
-use dccp_endpoint::{
-    DecodedDatagram, MOST_FRAME_BYTES, NoMemory, Outbox, Refusal, Seen, Seq48, UserCall,
-};
+use dccp_endpoint::{DecodedDatagram, MOST_FRAME_BYTES, NoMemory, Outbox, Seen, Seq48, UserCall};
 use dccp_listener::{Heard, NoFlow, Peer};
 use dccp_server::{
     Duty, EventServer, FlowDropRecord, FlowInboxes, Meeting, NoNewFlows, Rules, Server, Way,
@@ -48,21 +45,6 @@ use dccp_server::{
 };
 use dccp_uses::{Restraint, Rule};
 use std::alloc::Global;
-
-fn refusal_code(refusal: Refusal) -> u32
-    ensures { result ≡ refusal_code refusal }
-{
-    match refusal {
-        Refusal::NotFresh => NOT_FRESH,
-        Refusal::NotOpen => NOT_OPEN,
-        Refusal::TooLong => TOO_LONG,
-        Refusal::NotNegotiated => NOT_NEGOTIATED,
-        Refusal::WindowFull => WINDOW_FULL,
-        Refusal::BadList => BAD_LIST,
-        Refusal::NotOurs => NOT_OURS,
-        Refusal::NotLive => NOT_LIVE,
-    }
-}
 
 fn call_code(answer: &Result<Seen, NoFlow>) -> u32
     ensures { result ≡ listen_code (Stepped (seen_if answer.now)) }

@@ -9,12 +9,12 @@ ghost use Rattle.dccp_c.specs.Doing.{c_end};
 ghost use Rattle.dccp_c.specs.Making.{c_begins};
 ghost use Rattle.dccp_c.specs.Stepping.{c_acts, c_receives, c_told, done, record_heard, timed_acts};
 
-use crate::codes::{abort_code, close_code, open_code, send_code, timer_code, wish_code};
+use crate::codes::{called_code, send_code, timer_code, wish_code};
 use crate::held::OwnedEnd;
 use crate::making::Care;
 use ccid_two::Kinds;
 use data_dropped::Intake;
-use dccp_endpoint::{Config, DecodedDatagram, NoMemory, Outbox, Phase, UserCall};
+use dccp_endpoint::{Config, DecodedDatagram, NoMemory, Outbox, Phase, Refusal, UserCall};
 use dccp_uses::{ClientCookie, DropRecord, Due, Pace, Reading, TimedEnd, settle_heard};
 use std::alloc::Global;
 
@@ -85,7 +85,7 @@ fn act_alone(timed: &mut TimedEnd<Kinds>, call: UserCall<'_>, now: u64, out: &mu
     ensures { record { timed = timed.new; frame = out.new; answer = result } ≡ timed_acts (asked call.entry) now timed.old }
 {
     match call {
-        UserCall::Open => open_code(&timed.open(now, out)),
+        UserCall::Open => called_code(&timed.open(now, out), Refusal::NotFresh),
         UserCall::Send(payload) | UserCall::SendEarly(payload) => {
             send_code(&timed.send(payload, now, out))
         }
@@ -94,8 +94,8 @@ fn act_alone(timed: &mut TimedEnd<Kinds>, call: UserCall<'_>, now: u64, out: &mu
             place,
             values,
         } => wish_code(&timed.prefer(feature, place, values, now, out)),
-        UserCall::Close => close_code(&timed.close(now, out)),
-        UserCall::Abort => abort_code(&timed.abort(now, out)),
+        UserCall::Close => called_code(&timed.close(now, out), Refusal::NotOpen),
+        UserCall::Abort => called_code(&timed.abort(now, out), Refusal::NotLive),
         UserCall::Timer(timer) => timer_code(timed.timer(timer, now, out)),
     }
 }
