@@ -9,6 +9,9 @@ const SIZE: u64 = 1 << 48;
 
 const HALF: u64 = 1 << 47;
 
+// The same of a scaled distance.
+const SCALED_HALF: u64 = 1 << 63;
+
 // How many numbers 24 bits can distinguish.
 const SHORT_SIZE: u64 = 1 << 24;
 
@@ -88,13 +91,20 @@ impl Seq48 {
         (to.number + SIZE - self.number) % SIZE
     }
 
+    // The distance in the high 48 bits of a word, where nothing has to be masked before it is compared.
+    fn scaled_distance(self, to: Seq48) -> u64
+        ensures { result ≡ 2 ^ 16 * distance self to }
+    {
+        to.number.wrapping_sub(self.number) << 16
+    }
+
     /// Whether `other` lies ahead by 1 to 2^47 - 1 steps (RFC 4340, section 3.1).
     pub fn before(self, other: Seq48) -> bool
         ensures value { result ≡ is_before self other }
         ensures meaning { IsTrue result ↔ IsBefore self other }
     {
-        let ahead = self.distance(other);
-        0 < ahead && ahead < HALF
+        let ahead = self.scaled_distance(other);
+        0 < ahead && ahead < SCALED_HALF
     }
 
     /// The later of the two: `other` if this number is before it, otherwise this one (own).
@@ -111,7 +121,7 @@ impl Seq48 {
         ensures value { result ≡ is_from low self }
         ensures meaning { IsTrue result ↔ IsFrom low self }
     {
-        low.distance(self) < HALF
+        low.scaled_distance(self) < SCALED_HALF
     }
 
     /// The last number that `is_from` counts as ahead of this one: 2^47 - 1 steps up. With it as the high end, `within`
@@ -128,7 +138,7 @@ impl Seq48 {
         ensures value { result ≡ is_within self lo hi }
         ensures meaning { IsTrue result ↔ IsWithin self lo hi }
     {
-        lo.distance(self) <= lo.distance(hi)
+        lo.scaled_distance(self) <= lo.scaled_distance(hi)
     }
 
     /// The low 24 bits, as short forms of packets carry them (RFC 4340, section 7.6). `extend` finds this number again
