@@ -7,7 +7,7 @@ use Rattle.std.proofs.Math.Seq.{take-append-add}
 use Rattle.std.proofs.Common.{◌%◌, ◌/◌, rules}
 use Rattle.dccp_sum.specs.Words.{word_sum, ones_complement, IsSameSum}
 use Rattle.byteorder.specs.Endian.{big_bytes}
-use Rattle.dccp_sum.specs.Checksum.{with_checksum, pseudo_header, summed}
+use Rattle.dccp_sum.specs.Checksum.{with_checksum, pseudo_header, stated, summed}
 use Rattle.dccp_sum.specs.declared.pseudo_header.Pseudo.{Pseudo}
 use Rattle.dccp_sum.specs.declared.pseudo_header.Pseudo.TheVariants.{V4, V6}
 
@@ -126,3 +126,17 @@ pub same-long : (bytes : List ℕ) (count start before sum : ℕ) → 8 ≤ leng
     → IsSameSum sum (start + word_sum (take count (with_checksum 0 bytes)))
 same-long bytes count start before sum long past first second =
     rw (word_sum-long bytes count long past) (record { residue = omega arith; zero = search rules })
+
+-- the words that a longer coverage has, the checksum among them
+pub word_sum-stated : (bytes : List ℕ) (count : ℕ) → 8 ≤ length bytes → 8 ≤ count
+    → word_sum (take count bytes) ≡ word_sum (take count (with_checksum 0 bytes)) + stated bytes
+word_sum-stated (b0 ∷ b1 ∷ b2 ∷ b3 ∷ b4 ∷ b5 ∷ b6 ∷ b7 ∷ rest) count long past =
+    let front : List ℕ = b0 ∷ b1 ∷ b2 ∷ b3 ∷ b4 ∷ b5 ∷ b6 ∷ b7 ∷ [] in
+    let n : count ≡ length front + (count - 8) = omega arith in
+    let split : take count (front ++ rest) ≡ front ++ take (count - 8) rest =
+    ap (λ (m : ℕ). take m (front ++ rest)) n ∙ take-append-add front rest (count - 8) in
+    let whole = ap word_sum split in
+    let outer = word_sum-append 4 front (take (count - 8) rest) (omega arith) in
+    let without = word_sum-long (front ++ rest) count long past in
+    omega (arith, whole, outer, without)
+word_sum-stated bytes count long past = absurd (omega arith)

@@ -24,6 +24,9 @@ const NIBBLE: u8 = 16;
 // Data Offset and CsCov count words of 32 bits.
 const WORD: usize = 4;
 
+// Sums in ones' complement are counted modulo this number.
+const MODULUS: u64 = 65_535;
+
 /// Why a packet's checksum was refused.
 #[derive(Clone, Copy, Debug, PartialEq, Eq)]
 pub enum SumFault {
@@ -87,6 +90,33 @@ fn is_same(a: u16, b: u16) -> bool
     a == b || (matches!(a, 0 | 0xffff) && matches!(b, 0 | 0xffff))
 }
 
+// Whether the checksum in a packet is that of its first `covered` bytes, which are at least 8. Then these, with the
+// checksum among them, and the pseudo-header add up to zero in ones' complement (RFC 1071, section 1).
+fn adds_up(pseudo: &Pseudo, bytes: &[u8], covered: usize) -> bool
+    requires low { 8 ≤ covered }
+    requires high { length bytes.now ≤ 65535 }
+    requires inside { covered ≤ length bytes.now }
+    ensures { result ≡ same_checksum (stated bytes.now) (checksum pseudo.now bytes.now covered) }
+{
+    let header = add_pseudo_header(pseudo, bytes.len() as u64);
+    add_words(header, &bytes[..covered]) % MODULUS == 0
+}
+
+// Whether the checksum in a packet, which is `sum`, is that of its first `covered` bytes.
+fn is_right(pseudo: &Pseudo, bytes: &[u8], covered: usize, sum: u16) -> bool
+    requires low { 8 ≤ length bytes.now }
+    requires high { length bytes.now ≤ 65535 }
+    requires inside { covered ≤ length bytes.now }
+    requires sum { sum ≡ stated bytes.now }
+    ensures { result ≡ same_checksum sum (checksum pseudo.now bytes.now covered) }
+{
+    if AFTER_CHECKSUM <= covered {
+        adds_up(pseudo, bytes, covered)
+    } else {
+        is_same(sum, checksum(pseudo, bytes, covered))
+    }
+}
+
 /// Checks a packet's checksum. It refuses, in this order: a coverage that passes the packet's end, exactly if `covered`
 /// returns None; and a checksum in bytes 6 and 7 that is not that of the packet. The two spellings of zero, 0000 and
 /// ffff, count as equal (RFC 4340, section 9.1). The packet has 8 to 65,535 bytes.
@@ -102,7 +132,7 @@ pub fn check(pseudo: &Pseudo, bytes: &[u8]) -> Result<(), SumFault>
         return Err(SumFault::CoverageTooLarge);
     };
     let stated = BigEndian::read_u16(&bytes[CHECKSUM..]);
-    if is_same(stated, checksum(pseudo, bytes, covered)) {
+    if is_right(pseudo, bytes, covered, stated) {
         Ok(())
     } else {
         Err(SumFault::Wrong)

@@ -144,13 +144,13 @@ pub(crate) fn add_words(start: u64, bytes: &[u8]) -> u64
     sum
 }
 
-// The ones' complement sum of a whole sum: what passes 16 bits is carried round to the low end.
+// The ones' complement sum of a whole sum.
 pub(crate) fn fold(sum: u64) -> u16
     ensures { result ≡ ones_complement sum }
 {
-    let mut folded = sum;
-    while 0xffff < folded {
-        folded = (folded >> 16) + (folded & 0xffff);
+    if sum == 0 {
+        0
+    } else {
+        (1 + (sum - 1) % 65_535) as u16
     }
-    folded as u16
 }
