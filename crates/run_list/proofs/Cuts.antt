@@ -5,11 +5,12 @@ use Rattle.std.proofs.lemmas.List.{length-set}
 use Rattle.std.proofs.lemmas.List.Elements.{filter-append}
 use Rattle.seq_circle.specs.Circle.{distance}
 use Rattle.run_list.specs.declared.walking.Stretch.{Stretch}
-use Rattle.run_list.specs.declared.linked.Node.{Node}
+use Rattle.run_list.specs.declared.nodes.Node.{Node}
 use Rattle.run_list.specs.MarkedSet.{is_from}
 use Rattle.run_list.specs.Stretches.{stretch}
 use Rattle.run_list.specs.Runs.{numbers_of, AreLaid, bound_below, bound_after}
-use Rattle.run_list.specs.Linked.{node_at, run_of, runs_at, runs_from, IsPath, times_listed, IsParted, IsLinked, IsPlace, IsPlaceBelow}
+use Rattle.run_list.specs.Linked.{run_of, runs_at, runs_from, IsPath, times_listed, IsParted, IsLinked, IsPlace, IsPlaceBelow}
+use Rattle.run_list.specs.Nodes.{node_at}
 use Rattle.run_list.proofs.Downs.{dropped-downwards}
 use Rattle.run_list.proofs.Laid.{numbers_of-append, laid_front, laid_back, bound_falls}
 use Rattle.run_list.proofs.Kept.{last_kept, laid_wider}
@@ -36,15 +37,15 @@ rest_low f to nodes first before at p s laid =
     ]
 
 -- no run is left
-pub cut_first : (f to : ℕ) (nodes : List Node) (first free before at : ℕ) → IsLinked nodes first free
+pub cut_first : {made : ℕ} (f to : ℕ) (nodes : List Node) (first free before at : ℕ) → IsLinked nodes first free made
     → IsPlaceBelow f (distance f to) nodes first before at → before ≡ 1024
     → f < 2 ^ 48 → to < 2 ^ 48 → distance f to < 2 ^ 47 → AreLaid f 2048 (runs_from nodes first)
-    → IsParted nodes 1024 free at × (runs_from nodes 1024 ≡ []) × (filter (is_from to) (numbers_of (runs_from nodes first)) ≡ [])
-cut_first f to nodes first free before at l p e q r d laid =
+    → IsParted nodes 1024 free at made × (runs_from nodes 1024 ≡ []) × (filter (is_from to) (numbers_of (runs_from nodes first)) ≡ [])
+cut_first {made} f to nodes first free before at l p e q r d laid =
     let none : p.place.passed ≡ [] = last-none nodes first at before p.place.passed (omega arith) p.place.passed_path p.place.last in
     let R : List ℕ → Type 0 = λ js. IsPath nodes first js at in
     let same : first ≡ at = subst R none p.place.passed_path in
-    let P : ℕ → Type 0 = λ k. IsParted nodes 1024 free k in
+    let P : ℕ → Type 0 = λ k. IsParted nodes 1024 free k made in
     let all = all_parted nodes first free l in
     let low = runs-dropped f to (distance f to) (runs_from nodes at) q r d (omega arith) (rest_low f to nodes first before at p l.size laid) in
     (subst P same all.0, all.1, ap (λ (k : ℕ). filter (is_from to) (numbers_of (runs_from nodes k))) same ∙ low)
@@ -65,9 +66,9 @@ cut_runs f to count ss rest s p q r laid h e low =
           ∙ kept.0),
     )
 
-pub cut_parted : (nodes : List Node) (first free before at : ℕ) (x : Node) (l : IsLinked nodes first free) (p : IsPlace nodes first before at) → before < 1024
+pub cut_parted : {made : ℕ} (nodes : List Node) (first free before at : ℕ) (x : Node) (l : IsLinked nodes first free made) (p : IsPlace nodes first before at) → before < 1024
     → x.next ≡ 1024
-    → IsParted (set nodes before x) first free at × (runs_from (set nodes before x) first ≡ runs_at nodes (front p.passed) ++ run_of x ∷ [])
+    → IsParted (set nodes before x) first free at made × (runs_from (set nodes before x) first ≡ runs_at nodes (front p.passed) ++ run_of x ∷ [])
 cut_parted nodes first free before at x l p h e =
     let size : length nodes ≡ 1024 = l.size in
     let new : List Node = set nodes before x in
@@ -98,13 +99,14 @@ cut_parted nodes first free before at x l p h e =
         once = λ i k. (let one = place_once nodes first free before at i l p k in omega arith);
         all = omega arith;
         idle = idle_set nodes before x l.spare no_spare l.idle;
+        unused = l.unused;
       },
       from-path new first p.passed new_size (omega arith) used_path
           ∙ ap (λ (js : List ℕ). runs_at new js) parts
           ∙ runs-edited nodes before x (front p.passed) [] (omega arith) no_front refl,
     )
 
-pub cut_after : (f to count : ℕ) (nodes : List Node) (first free before at : ℕ) (l : IsLinked nodes first free)
+pub cut_after : {made : ℕ} (f to count : ℕ) (nodes : List Node) (first free before at : ℕ) (l : IsLinked nodes first free made)
     (p : IsPlaceBelow f (distance f to) nodes first before at) → before < 1024
     → f < 2 ^ 48 → to < 2 ^ 48 → distance f to < 2 ^ 47 → AreLaid f 2048 (runs_from nodes first)
     → count ≡ min (node_at nodes before).count (distance f (node_at nodes before).hi - distance f to + 1)

@@ -1,18 +1,20 @@
 -- Used and free nodes, and what an edit makes of both.
 use Rattle.std.proofs.Common.{◌≡◌, ℕ, ◌+◌, ◌*◌, ◌-◌, ◌^◌, ◌<◌, ◌≤◌, true, List, [], ◌∷◌, ◌++◌, suc, refl, ap, subst, arith, sym, ◌∙◌, inl, inr, length, set, length-append}
-use Rattle.std.proofs.lemmas.Bool.{cases_eq}
+use Rattle.std.proofs.lemmas.Bool.{cases_eq, cases_lt}
 use Rattle.std.proofs.lemmas.List.{length-set}
 use Rattle.std.proofs.lemmas.Grind.{get_or-set_at}
 use Rattle.seq_circle.specs.Circle.{distance}
 use Rattle.run_list.specs.declared.walking.Stretch.{Stretch}
-use Rattle.run_list.specs.declared.linked.Node.{Node}
+use Rattle.run_list.specs.declared.nodes.Node.{Node}
 use Rattle.run_list.specs.MarkedSet.{has}
 use Rattle.run_list.specs.Stretches.{stretch}
 use Rattle.run_list.specs.Runs.{numbers_of, AreLaid, bound_below, bound_after, Adds}
-use Rattle.run_list.specs.Linked.{no_node, node_at, run_of, runs_at, runs_from, IsPath, times_listed, IsChained, IsParted, IsLinked, IsPlace, IsBegin, AreIdle, Points}
+use Rattle.run_list.specs.Linked.{run_of, runs_at, runs_from, IsPath, times_listed, IsChained, IsParted, IsLinked, IsPlace, AreIdle, Points}
+use Rattle.run_list.specs.Nodes.{no_node, node_at}
 use Rattle.run_list.proofs.Downs.{inside-present}
+use Rattle.run_list.proofs.Places.{place_step}
 use Rattle.run_list.proofs.Laid.{adds_after, adds_alone, laid_back, laid_front, laid_below, present_after, bound_falls, room_for_runs}
-use Rattle.run_list.proofs.Paths.{times-here, times-other, times-append, times-cons, last_apart, path-append, one_path, path-end, path-fits, path-some, following, path-head, path-more, last-more, runs-append, length-runs, from-path, path-set, runs-set, path-same, runs-edited}
+use Rattle.run_list.proofs.Paths.{times-here, times-other, times-last, times-append, times-cons, last_apart, path-append, one_path, path-end, path-fits, path-some, following, path-head, path-more, last-more, runs-append, length-runs, from-path, path-set, runs-set, path-same, runs-edited}
 
 -- free nodes after an edit of one that is not among them, and without the first
 pub idle_set : (nodes : List Node) (i : ℕ) (x : Node) (js : List ℕ) → times_listed i js ≡ 0 → AreIdle (runs_at nodes js) → AreIdle (runs_at (set nodes i x) js)
@@ -37,11 +39,19 @@ idle_apart nodes i (j ∷ js) some idle =
     ]
 
 -- a set with its chain is one whose links lead to an end
-pub linked_chained : (nodes : List Node) (first free : ℕ) → IsLinked nodes first free → IsChained nodes first
-linked_chained nodes first free l = let all = l.all in record { chain = l.used; size = l.size; path = l.used_path; few = omega arith }
+pub linked_chained : {made : ℕ} (nodes : List Node) (first free : ℕ) → IsLinked nodes first free made → IsChained nodes first made
+linked_chained nodes first free l =
+    let all = l.all in
+    record {
+      chain = l.used;
+      size = l.size;
+      path = l.used_path;
+      few = omega arith;
+      within = λ i g h. (let once = l.once i h in let free = l.unused i g h in omega arith);
+    }
 
 -- the used nodes are those before a place and those from it on
-pub linked_place : (nodes : List Node) (first free before at : ℕ) (l : IsLinked nodes first free) (p : IsPlace nodes first before at)
+pub linked_place : {made : ℕ} (nodes : List Node) (first free before at : ℕ) (l : IsLinked nodes first free made) (p : IsPlace nodes first before at)
     → l.used ≡ p.passed ++ p.rest
 linked_place nodes first free before at l p =
     one_path nodes first l.used (p.passed ++ p.rest) l.used_path (path-append nodes first at 1024 p.passed p.rest p.passed_path p.rest_path)
@@ -58,7 +68,7 @@ pub rest_runs : (nodes : List Node) (first before at : ℕ) (p : IsPlace nodes f
 rest_runs nodes first before at p s = let few = p.few in from-path nodes at p.rest s (omega arith) p.rest_path
 
 -- each index is once before the place, from it on, or among the free ones
-pub place_once : (nodes : List Node) (first free before at i : ℕ) (l : IsLinked nodes first free) (p : IsPlace nodes first before at) → i < 1024
+pub place_once : {made : ℕ} (nodes : List Node) (first free before at i : ℕ) (l : IsLinked nodes first free made) (p : IsPlace nodes first before at) → i < 1024
     → times_listed i p.passed + times_listed i p.rest + times_listed i l.spare ≡ 1
 place_once nodes first free before at i l p h =
     let once : times_listed i l.used + times_listed i l.spare ≡ 1 = l.once i h in
@@ -67,7 +77,7 @@ place_once nodes first free before at i l p h =
     let both : times_listed i (p.passed ++ p.rest) ≡ times_listed i p.passed + times_listed i p.rest = times-append i p.passed p.rest in
     omega arith
 
-pub place_all : (nodes : List Node) (first free before at : ℕ) (l : IsLinked nodes first free) (p : IsPlace nodes first before at)
+pub place_all : {made : ℕ} (nodes : List Node) (first free before at : ℕ) (l : IsLinked nodes first free made) (p : IsPlace nodes first before at)
     → length p.passed + length p.rest + length l.spare ≡ 1024
 place_all nodes first free before at l p =
     let all : length l.used + length l.spare ≡ 1024 = l.all in
@@ -90,7 +100,7 @@ laid_rest f before old all e laid =
     laid_back f 2048 before old (subst P e laid)
 
 -- a run of its own finds a free node
-pub link_room : (f n : ℕ) (nodes : List Node) (first free before at : ℕ) (l : IsLinked nodes first free) (p : IsPlace nodes first before at) → f < 2 ^ 48
+pub link_room : {made : ℕ} (f n : ℕ) (nodes : List Node) (first free before at : ℕ) (l : IsLinked nodes first free made) (p : IsPlace nodes first before at) → f < 2 ^ 48
     → n < 2 ^ 48
     → AreLaid f 2048 (runs_from nodes first) → distance f n < bound_after f 2048 (runs_at nodes p.passed) → AreLaid f (distance f n - 1) (runs_from nodes at)
     → free < 1024
@@ -110,10 +120,10 @@ link_room f n nodes first free before at l p q r laid above below =
     path-some nodes free l.spare (omega arith) l.spare_path
 
 -- a free node goes between the node before a place and the one at it
-pub link_linked : (nodes new : List Node) (first new_first free before at : ℕ) (x : Node) (l : IsLinked nodes first free) (p : IsPlace nodes first before at)
-    → free < 1024 → x.next ≡ at → Points (set nodes free x) new first new_first before free
-    → IsLinked new new_first (node_at nodes free).next × (runs_from new new_first ≡ runs_at nodes p.passed ++ run_of x ∷ runs_at nodes p.rest)
-link_linked nodes new first new_first free before at x l p h e t =
+pub link_linked : {made : ℕ} (nodes new : List Node) (first new_first free before at more : ℕ) (x : Node) (l : IsLinked nodes first free made)
+    (p : IsPlace nodes first before at) → free < 1024 → x.next ≡ at → Points (set nodes free x) new first new_first before free → made ≤ more → free < more
+    → IsLinked new new_first (node_at nodes free).next more × (runs_from new new_first ≡ runs_at nodes p.passed ++ run_of x ∷ runs_at nodes p.rest)
+link_linked nodes new first new_first free before at more x l p h e t m u =
     let spare : List ℕ = following l.spare in
     let mid : List Node = set nodes free x in
     let follows : ℕ = (node_at nodes free).next in
@@ -159,13 +169,16 @@ link_linked nodes new first new_first free before at x l p h e t =
             times-append i p.passed (free ∷ p.rest) in omega arith);
         all = omega arith;
         idle = subst AreIdle (sym (t.runs spare ∙ runs-set nodes free x spare no_spare)) (idle_after nodes l.spare l.idle);
+        unused = λ i g k. (let old : times_listed i l.spare ≡ 1 = l.unused i (omega arith) k in
+            let one : times_listed i l.spare ≡ times_listed i (free ∷ spare) = ap (λ (js : List ℕ). times_listed i js) head.0 in
+            let two = times-other i free spare (λ e. absurd (omega arith)) in omega arith);
       },
       from-path new new_first (p.passed ++ free ∷ p.rest) new_size (omega arith) used_path
           ∙ t.runs (p.passed ++ free ∷ p.rest) ∙ runs-edited nodes free x p.passed p.rest (omega arith) no_passed no_rest,
     )
 
 -- the node at a place is in no other place
-pub place_head : (nodes : List Node) (first free before at i : ℕ) (l : IsLinked nodes first free) (p : IsPlace nodes first before at) → at < 1024 → i < 1024
+pub place_head : {made : ℕ} (nodes : List Node) (first free before at i : ℕ) (l : IsLinked nodes first free made) (p : IsPlace nodes first before at) → at < 1024 → i < 1024
     → times_listed i p.passed + times_listed i (at ∷ []) + times_listed i (following p.rest) + times_listed i l.spare ≡ 1
 place_head nodes first free before at i l p h k =
     let head = path-head nodes at p.rest h p.rest_path in
@@ -174,10 +187,39 @@ place_head nodes first free before at i l p h k =
     let two : times_listed i (at ∷ following p.rest) ≡ times_listed i (at ∷ []) + times_listed i (following p.rest) = times-cons i at (following p.rest) in
     omega arith
 
+-- the node at a place is made, as is the one before it
+pub at_is_made : {made : ℕ} (nodes : List Node) (first free before at : ℕ) (l : IsLinked nodes first free made) (p : IsPlace nodes first before at) → at < 1024
+    → at < made
+at_is_made {made} nodes first free before at l p h =
+    elim (cases_lt at made) [
+      | inl lt ↦ lt
+      | inr ge ↦
+          let once = place_head nodes first free before at at l p h h in
+          let self : times_listed at (at ∷ []) ≡ 1 + times_listed at [] = times-here at at [] refl in
+          let free = l.unused at ge h in absurd (omega arith)
+    ]
+
+pub before_is_made : {made : ℕ} (nodes : List Node) (first free before at : ℕ) (l : IsLinked nodes first free made) (p : IsPlace nodes first before at)
+    → before < 1024 → before < made
+before_is_made {made} nodes first free before at l p h =
+    elim (cases_lt before made) [
+      | inl lt ↦ lt
+      | inr ge ↦
+          let once = place_once nodes first free before at before l p h in
+          let there = times-last before p.passed h p.last in
+          let free = l.unused before ge h in absurd (omega arith)
+    ]
+
+-- so is the one after it
+pub next_is_made : {made : ℕ} (nodes : List Node) (first free before at next : ℕ) (l : IsLinked nodes first free made) (p : IsPlace nodes first before at)
+    → at < 1024 → next ≡ (node_at nodes at).next → next < 1024 → next < made
+next_is_made nodes first free before at next l p h e k =
+    rw e (at_is_made nodes first free at (node_at nodes at).next l (place_step nodes first before at p h) (rw (← e) k))
+
 -- the run at a place changes where it is
-pub edit_linked : (nodes : List Node) (first free before at : ℕ) (x : Node) (l : IsLinked nodes first free) (p : IsPlace nodes first before at)
+pub edit_linked : {made : ℕ} (nodes : List Node) (first free before at : ℕ) (x : Node) (l : IsLinked nodes first free made) (p : IsPlace nodes first before at)
     → at < 1024 → x.next ≡ (node_at nodes at).next
-    → IsLinked (set nodes at x) first free × (runs_from (set nodes at x) first ≡ runs_at nodes p.passed ++ run_of x ∷ runs_at nodes (following p.rest))
+    → IsLinked (set nodes at x) first free made × (runs_from (set nodes at x) first ≡ runs_at nodes p.passed ++ run_of x ∷ runs_at nodes (following p.rest))
 edit_linked nodes first free before at x l p h e =
     let size : length nodes ≡ 1024 = l.size in
     let all : length l.used + length l.spare ≡ 1024 = l.all in
@@ -197,6 +239,7 @@ edit_linked nodes first free before at x l p h e =
         once = l.once;
         all = l.all;
         idle = idle_set nodes at x l.spare (omega arith) l.idle;
+        unused = l.unused;
       },
       from-path (set nodes at x) first l.used new_size (omega arith) used_path
           ∙ ap (λ (js : List ℕ). runs_at (set nodes at x) js) parts
@@ -204,9 +247,9 @@ edit_linked nodes first free before at x l p h e =
     )
 
 -- the run at a place takes that after it in, and the node of that is free
-pub join_linked : (nodes : List Node) (first free before at next : ℕ) (x y : Node) (l : IsLinked nodes first free) (p : IsPlace nodes first before at)
+pub join_linked : {made : ℕ} (nodes : List Node) (first free before at next : ℕ) (x y : Node) (l : IsLinked nodes first free made) (p : IsPlace nodes first before at)
     → at < 1024 → next ≡ (node_at nodes at).next → next < 1024 → x.next ≡ (node_at nodes next).next → y.next ≡ free → y.count ≡ 0
-    → IsLinked (set (set nodes at x) next y) first next
+    → IsLinked (set (set nodes at x) next y) first next made
     × (runs_from (set (set nodes at x) next y) first ≡ runs_at nodes p.passed ++ run_of x ∷ runs_at nodes (following (following p.rest)))
 join_linked nodes first free before at next x y l p h e g d c z =
     let size : length nodes ≡ 1024 = l.size in
@@ -266,6 +309,8 @@ join_linked nodes first free before at next x y l p h e g d c z =
             omega arith);
         all = omega arith;
         idle = idle_more new next y l.spare read_next z (idle_set mid next y l.spare spare_next (idle_set nodes at x l.spare spare_at l.idle));
+        unused = λ i g k. (let old = l.unused i g k in let s = sums i k in
+            let a : times_listed i (next ∷ l.spare) ≡ times_listed i (next ∷ []) + times_listed i l.spare = times-cons i next l.spare in omega arith);
       },
       from-path new first (p.passed ++ at ∷ rest) new_size (omega arith) used_path
           ∙ runs-set mid next y (p.passed ++ at ∷ rest) free_of
@@ -273,8 +318,8 @@ join_linked nodes first free before at next x y l p h e g d c z =
     )
 
 -- a node that is being freed comes before the free ones
-pub parted_step : (nodes : List Node) (first free from : ℕ) (x : Node) (d : IsParted nodes first free from) → from < 1024 → x.next ≡ free → x.count ≡ 0
-    → IsParted (set nodes from x) first from (node_at nodes from).next × (runs_from (set nodes from x) first ≡ runs_from nodes first)
+pub parted_step : {made : ℕ} (nodes : List Node) (first free from : ℕ) (x : Node) (d : IsParted nodes first free from made) → from < 1024 → x.next ≡ free → x.count ≡ 0
+    → IsParted (set nodes from x) first from (node_at nodes from).next made × (runs_from (set nodes from x) first ≡ runs_from nodes first)
 parted_step nodes first free from x d h e z =
     let size : length nodes ≡ 1024 = d.size in
     let new : List Node = set nodes from x in
@@ -308,18 +353,33 @@ parted_step nodes first free from x d h e z =
             times-cons i from d.spare in omega arith);
         all = omega arith;
         idle = idle_more new from x d.spare read z (idle_set nodes from x d.spare no_spare d.idle);
+        unused = λ i g k. (let old = d.unused i g k in let s = sums i k in
+            let a : times_listed i (from ∷ d.spare) ≡ times_listed i (from ∷ []) + times_listed i d.spare = times-cons i from d.spare in omega arith);
       },
       from-path new first d.used new_size (omega arith) used_path ∙ runs-set nodes from x d.used no_used
           ∙ sym (from-path nodes first d.used d.size (omega arith) d.used_path),
     )
 
+-- a node that is being freed is made
+pub loose_is_made : {made : ℕ} (nodes : List Node) (first free from : ℕ) (d : IsParted nodes first free from made) → from < 1024 → from < made
+loose_is_made {made} nodes first free from d h =
+    elim (cases_lt from made) [
+      | inl lt ↦ lt
+      | inr ge ↦
+          let head = path-head nodes from d.loose h d.loose_path in
+          let once = d.once from h in
+          let one : times_listed from d.loose ≡ times_listed from (from ∷ following d.loose) = ap (λ (js : List ℕ). times_listed from js) head.0 in
+          let self = times-here from from (following d.loose) refl in
+          let free = d.unused from ge h in absurd (omega arith)
+    ]
+
 -- how many are left to be freed
-pub parted_left : (nodes : List Node) (first free from : ℕ) (d : IsParted nodes first free from) → length (runs_from nodes from) ≡ length d.loose
+pub parted_left : {made : ℕ} (nodes : List Node) (first free from : ℕ) (d : IsParted nodes first free from made) → length (runs_from nodes from) ≡ length d.loose
 parted_left nodes first free from d =
     let all = d.all in
     ap (λ (ss : List Stretch). length ss) (from-path nodes from d.loose d.size (omega arith) d.loose_path) ∙ length-runs nodes d.loose
 
-pub parted_falls : (nodes : List Node) (first free from : ℕ) (x : Node) (d : IsParted nodes first free from) → from < 1024 → x.next ≡ free → x.count ≡ 0
+pub parted_falls : {made : ℕ} (nodes : List Node) (first free from : ℕ) (x : Node) (d : IsParted nodes first free from made) → from < 1024 → x.next ≡ free → x.count ≡ 0
     → length (runs_from (set nodes from x) (node_at nodes from).next) < length (runs_from nodes from)
 unfolding parted_step
 parted_falls nodes first free from x d h e z =
@@ -331,7 +391,7 @@ parted_falls nodes first free from x d h e z =
     omega arith
 
 -- where none is left, all are used or free
-pub parted_end : (nodes : List Node) (first free from : ℕ) → IsParted nodes first free from → 1024 ≤ from → IsLinked nodes first free
+pub parted_end : {made : ℕ} (nodes : List Node) (first free from : ℕ) → IsParted nodes first free from made → 1024 ≤ from → IsLinked nodes first free made
 parted_end nodes first free from d h =
     let none : d.loose ≡ [] = path-end nodes from d.loose h d.loose_path in
     let zero : length d.loose ≡ 0 = ap (λ (js : List ℕ). length js) none in
@@ -345,10 +405,11 @@ parted_end nodes first free from d h =
       once = λ i k. (let once = d.once i k in let no : times_listed i d.loose ≡ 0 = ap (λ (js : List ℕ). times_listed i js) none in omega arith);
       all = omega arith;
       idle = d.idle;
+      unused = d.unused;
     }
 
 -- no node is used any more
-pub all_parted : (nodes : List Node) (first free : ℕ) → IsLinked nodes first free → IsParted nodes 1024 free first × (runs_from nodes 1024 ≡ [])
+pub all_parted : {made : ℕ} (nodes : List Node) (first free : ℕ) → IsLinked nodes first free made → IsParted nodes 1024 free first made × (runs_from nodes 1024 ≡ [])
 all_parted nodes first free l =
     let all = l.all in (
       record {
@@ -362,6 +423,7 @@ all_parted nodes first free l =
         once = λ i k. (let once = l.once i k in omega arith);
         all = omega arith;
         idle = l.idle;
+        unused = l.unused;
       },
       from-path nodes 1024 [] l.size (omega arith) refl,
     )
@@ -463,23 +525,44 @@ present_in f n nodes first before at p s q r h laid above d k =
     ap (λ (ts : List Stretch). has (numbers_of ts) n) parts ∙ present_after f 2048 n (runs_at nodes p.passed) old q (subst P parts laid) above there
 
 -- the walk goes on after a node, and ends if there is none
-pub chain_step : (nodes : List Node) (at : ℕ) → IsChained nodes at → at < 1024
-    → IsChained nodes (node_at nodes at).next × (runs_from nodes at ≡ run_of (node_at nodes at) ∷ runs_from nodes (node_at nodes at).next)
+pub chain_step : {made : ℕ} (nodes : List Node) (at : ℕ) → IsChained nodes at made → at < 1024
+    → IsChained nodes (node_at nodes at).next made × (runs_from nodes at ≡ run_of (node_at nodes at) ∷ runs_from nodes (node_at nodes at).next)
 chain_step nodes at k h =
     let few = k.few in
     let head = path-head nodes at k.chain h k.path in
     let one : length k.chain ≡ suc (length (following k.chain)) = ap (λ (js : List ℕ). length js) head.0 in (
-      record { chain = following k.chain; size = k.size; path = head.1; few = omega arith },
+      record {
+        chain = following k.chain;
+        size = k.size;
+        path = head.1;
+        few = omega arith;
+        within = λ i g j. (let none = k.within i g j in
+            let one : times_listed i k.chain ≡ times_listed i (at ∷ following k.chain) = ap (λ (js : List ℕ). times_listed i js) head.0 in
+            let two : times_listed i (at ∷ following k.chain) ≡ times_listed i (at ∷ []) + times_listed i (following k.chain) =
+            times-cons i at (following k.chain) in omega arith);
+      },
       from-path nodes at k.chain k.size k.few k.path
           ∙ ap (λ (js : List ℕ). runs_at nodes js) head.0
           ∙ ap (λ (ss : List Stretch). run_of (node_at nodes at) ∷ ss)
           (sym (from-path nodes (node_at nodes at).next (following k.chain) k.size (omega arith) head.1)),
     )
 
-pub chain_stop : (nodes : List Node) (at : ℕ) → IsChained nodes at → at ≡ 1024 → runs_from nodes at ≡ []
+pub chain_stop : {made : ℕ} (nodes : List Node) (at : ℕ) → IsChained nodes at made → at ≡ 1024 → runs_from nodes at ≡ []
 chain_stop nodes at k e = from-path nodes at [] k.size (omega arith) e
 
-pub chain_fits : (nodes : List Node) (at : ℕ) → IsChained nodes at → at ≤ 1024
+-- and it is at a node that is made
+pub chain_is_made : {made : ℕ} (nodes : List Node) (at : ℕ) → IsChained nodes at made → at < 1024 → at < made
+chain_is_made {made} nodes at k h =
+    elim (cases_lt at made) [
+      | inl lt ↦ lt
+      | inr ge ↦
+          let head = path-head nodes at k.chain h k.path in
+          let none = k.within at ge h in
+          let one : times_listed at k.chain ≡ times_listed at (at ∷ following k.chain) = ap (λ (js : List ℕ). times_listed at js) head.0 in
+          let self = times-here at at (following k.chain) refl in absurd (omega arith)
+    ]
+
+pub chain_fits : {made : ℕ} (nodes : List Node) (at : ℕ) → IsChained nodes at made → at ≤ 1024
 chain_fits nodes at k = path-fits nodes at k.chain k.path
 
 -- the links to a node on a path, and from it on
@@ -515,7 +598,7 @@ parting nodes first at (j ∷ js) p there =
     ]
 
 -- the place after a node that has a number
-pub place_after : (nodes : List Node) (first free at : ℕ) → IsLinked nodes first free → at < 1024 → 1 ≤ (node_at nodes at).count
+pub place_after : {made : ℕ} (nodes : List Node) (first free at : ℕ) → IsLinked nodes first free made → at < 1024 → 1 ≤ (node_at nodes at).count
     → IsPlace nodes first at (node_at nodes at).next
 place_after nodes first free at l h some =
     let once = l.once at h in

@@ -5,8 +5,9 @@ use Rattle.std.proofs.lemmas.Bool.{cases_eq, cases_lt, eq-eqb, ne_eqb, lt-ltb, l
 use Rattle.std.proofs.lemmas.List.{get_or-set_other, get_or_default, length-set}
 use Rattle.std.proofs.lemmas.Grind.{get_or-set_at}
 use Rattle.run_list.specs.declared.walking.Stretch.{Stretch}
-use Rattle.run_list.specs.declared.linked.Node.{Node}
-use Rattle.run_list.specs.Linked.{no_node, node_at, run_of, runs_at, IsPath, walked, runs_from, times_listed, IsLast, Points}
+use Rattle.run_list.specs.declared.nodes.Node.{Node}
+use Rattle.run_list.specs.Linked.{run_of, runs_at, IsPath, walked, runs_from, times_listed, IsLast, Points}
+use Rattle.run_list.specs.Nodes.{no_node, node_at}
 
 -- what is read at an index is the node there
 pub read_at : (nodes : List Node) (i j : ℕ) (n : Node) → n ≡ get_or nodes i n → i ≡ j → i < length nodes → n ≡ node_at nodes j

@@ -3,9 +3,10 @@ use Rattle.std.proofs.Common.{◌≡◌, ℕ, ◌+◌, ◌<◌, ◌≤◌, List,
 use Rattle.std.proofs.lemmas.Bool.{cases_lt}
 use Rattle.seq_circle.specs.Circle.{distance}
 use Rattle.run_list.specs.declared.walking.Stretch.{Stretch}
-use Rattle.run_list.specs.declared.linked.Node.{Node}
+use Rattle.run_list.specs.declared.nodes.Node.{Node}
 use Rattle.run_list.specs.Runs.{bound_below, bound_after, Touches}
-use Rattle.run_list.specs.Linked.{node_at, run_of, runs_at, runs_from, IsPlace, IsBegin, IsPassed, IsPlaceFor}
+use Rattle.run_list.specs.Linked.{run_of, runs_at, runs_from, IsPlace, IsBegin, IsPassed, IsPlaceFor}
+use Rattle.run_list.specs.Nodes.{node_at}
 use Rattle.run_list.proofs.Paths.{path-more, last-more, last-none, front, last-front, following, path-head, runs-append, length-runs, from-path}
 
 -- one node further

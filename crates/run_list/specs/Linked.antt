@@ -3,20 +3,13 @@
 -- A count (`times_listed`), and not a permutation, says that each index is once in one of the chains: an edit that moves an index to another
 -- chain then changes a sum. Only one path leads from an index along the links to no node. So the records have the chains of a state, and the
 -- place that a walk found, as lists of indices.
-use Rattle.std.specs.Prelude.{◌≡◌, ℕ, ◌+◌, ◌<◌, ◌≤◌, ◌==◌, nat_lt, List, [], ◌∷◌, zero, suc, length, slice_index_or, if◌then◌else◌}
+use Rattle.std.specs.Prelude.{◌≡◌, ℕ, ◌+◌, ◌<◌, ◌≤◌, ◌==◌, nat_lt, List, [], ◌∷◌, zero, suc, length, if◌then◌else◌}
 use Rattle.run_list.specs.declared.walking.Stretch.{Stretch}
 use Rattle.run_list.specs.declared.linked.NodeList.{NodeList}
-use Rattle.run_list.specs.declared.linked.Node.{Node}
+use Rattle.run_list.specs.declared.nodes.Node.{Node}
+use Rattle.run_list.specs.Nodes.{all_nodes, node_at}
 use Rattle.run_list.specs.Runs.{Touches, bound_after}
 use Rattle.seq_circle.specs.Circle.{distance}
-
--- what is read at an index that no node has
-abbrev pub no_node : Node
-no_node = record { hi = 0; count = 0; next = 1024 }
-
--- the node at an index
-abbrev pub node_at : List Node → ℕ → Node
-node_at nodes at = slice_index_or nodes at no_node
 
 -- the run of a node
 abbrev pub run_of : Node → Stretch
@@ -58,15 +51,16 @@ abbrev pub AreIdle : List Stretch → Type 0
 AreIdle [] = Unit {0}
 AreIdle (s ∷ ss) = (s.count ≡ 0) × AreIdle ss
 
--- the links lead from the index to no node, over at most 1,024
-pub record IsChained (nodes : List Node) (at : ℕ) : Type 0 where
+-- the links lead from the index to no node, over at most 1,024 that are made
+pub record IsChained (nodes : List Node) (at made : ℕ) : Type 0 where
   pub chain : List ℕ
   pub size : length nodes ≡ 1024
   pub path : IsPath nodes at chain 1024
   pub few : length chain ≤ 1024
+  pub within : (i : ℕ) → made ≤ i → i < 1024 → times_listed i chain ≡ 0
 
--- each index is once in one of three chains: the used nodes, the free ones, and those that are being freed
-pub record IsParted (nodes : List Node) (first free from : ℕ) : Type 0 where
+-- each index is once in one of three chains: the used nodes, the free ones with all that are not made, and those that are being freed
+pub record IsParted (nodes : List Node) (first free from made : ℕ) : Type 0 where
   pub used : List ℕ
   pub spare : List ℕ
   pub loose : List ℕ
@@ -77,9 +71,10 @@ pub record IsParted (nodes : List Node) (first free from : ℕ) : Type 0 where
   pub once : (i : ℕ) → i < 1024 → times_listed i used + times_listed i spare + times_listed i loose ≡ 1
   pub all : length used + length spare + length loose ≡ 1024
   pub idle : AreIdle (runs_at nodes spare)
+  pub unused : (i : ℕ) → made ≤ i → i < 1024 → times_listed i spare ≡ 1
 
--- each index is once in one of two chains: the used nodes and the free ones
-pub record IsLinked (nodes : List Node) (first free : ℕ) : Type 0 where
+-- each index is once in one of two chains: the used nodes, and the free ones with all that are not made
+pub record IsLinked (nodes : List Node) (first free made : ℕ) : Type 0 where
   pub used : List ℕ
   pub spare : List ℕ
   pub size : length nodes ≡ 1024
@@ -88,10 +83,15 @@ pub record IsLinked (nodes : List Node) (first free : ℕ) : Type 0 where
   pub once : (i : ℕ) → i < 1024 → times_listed i used + times_listed i spare ≡ 1
   pub all : length used + length spare ≡ 1024
   pub idle : AreIdle (runs_at nodes spare)
+  pub unused : (i : ℕ) → made ≤ i → i < 1024 → times_listed i spare ≡ 1
+
+-- the runs of a set's nodes, from the greatest down
+abbrev pub linked_runs : NodeList → List Stretch
+linked_runs runs = runs_from (all_nodes runs.nodes) runs.first
 
 -- the same of a set's nodes
 abbrev pub AreLinked : NodeList → Type 0
-AreLinked runs = IsLinked runs.nodes.items runs.first runs.free
+AreLinked runs = IsLinked (all_nodes runs.nodes) runs.first runs.free (length runs.nodes)
 
 -- a place in the chain: the links lead from the first node to `at`, after `before`, and from there on to no node
 pub record IsPlace (nodes : List Node) (first before at : ℕ) : Type 0 where

@@ -5,9 +5,11 @@
 //! used is in the chain, wherever its run lies.
 ghost use Rattle.std.specs.Prelude.{◌≡◌, ◌+◌, ◌<◌, IfSome};
 ghost use Rattle.seq_circle.specs.Circle.{distance};
-ghost use Rattle.run_list.specs.Linked.{AreLinked, IsBegin, IsPlace, node_at};
+ghost use Rattle.run_list.specs.Linked.{AreLinked, IsBegin, IsPlace};
+ghost use Rattle.run_list.specs.Nodes.{all_nodes, node_at};
 
-use crate::linked::{ChainPlace, NONE, NodeList};
+use crate::linked::{ChainPlace, NodeList};
+use crate::nodes::NONE;
 use seq_circle::Seq48;
 
 // How many successive numbers share a hint (own).
@@ -46,12 +48,9 @@ impl Hints {
 // The place after a node, if its run lies above `n` with a gap.
 fn place_after(runs: &NodeList, node: u16, floor: Seq48, n: Seq48) -> Option<ChainPlace>
     requires linked { AreLinked runs.now }
-    ensures { IfSome result (λ place. IsBegin floor n runs.now.nodes.items runs.now.first place.before place.at) }
+    ensures { IfSome result (λ place. IsBegin floor n (all_nodes runs.now.nodes) runs.now.first place.before place.at) }
 {
-    if node >= NONE {
-        return None;
-    }
-    let run = runs.nodes[usize::from(node)];
+    let run = runs.nodes.find(node)?;
     let above = floor.distance(run.hi).saturating_sub(floor.distance(n));
     if run.count == 0 || above <= u64::from(run.count) {
         return None;
@@ -66,7 +65,7 @@ fn place_after(runs: &NodeList, node: u16, floor: Seq48, n: Seq48) -> Option<Cha
 // otherwise at the first node.
 pub(crate) fn begin(runs: &NodeList, hints: &Hints, floor: Seq48, n: Seq48) -> ChainPlace
     requires linked { AreLinked runs.now }
-    ensures begins { IsBegin floor n runs.now.nodes.items runs.now.first result.before result.at }
+    ensures begins { IsBegin floor n (all_nodes runs.now.nodes) runs.now.first result.before result.at }
 {
     let first = ChainPlace {
         before: NONE,

@@ -10,6 +10,7 @@ mod hints;
 mod laws;
 mod linked;
 mod list;
+mod nodes;
 mod plain;
 mod plain_edits;
 mod runs;

@@ -32,13 +32,13 @@ impl Model for RunList {
     ghost use Rattle.std.specs.Prelude.{◌<◌, ◌^◌};
     ghost use Rattle.run_list.specs.MarkedSet.{MarkedSet};
     ghost use Rattle.run_list.specs.Runs.{AreLaid, numbers_of};
-    ghost use Rattle.run_list.specs.Linked.{AreLinked, runs_from};
+    ghost use Rattle.run_list.specs.Linked.{AreLinked, linked_runs};
 
     ghost Value = { MarkedSet };
 
-    ghost view = { λ r. record { floor = r.floor; numbers = numbers_of (runs_from r.runs.nodes.items r.runs.first) } };
+    ghost view = { λ r. record { floor = r.floor; numbers = numbers_of (linked_runs r.runs) } };
 
-    ghost invariant = { λ r. (r.floor < 2 ^ 48) × AreLaid r.floor 2048 (runs_from r.runs.nodes.items r.runs.first)
+    ghost invariant = { λ r. (r.floor < 2 ^ 48) × AreLaid r.floor 2048 (linked_runs r.runs)
         × AreLinked r.runs };
 }
 
@@ -48,7 +48,7 @@ impl RunList {
         ensures { IfOk result (λ set. set ≡ empty_from 0) }
     {
         let floor = Seq48::new(0).ok_or(NoMemory)?;
-        let runs = all_free(alloc, floor)?;
+        let runs = all_free(alloc)?;
         Ok(RunList {
             floor,
             runs,

@@ -1,5 +1,5 @@
 //! The runs of a set, one after the other.
-use crate::linked::{NONE, Node};
+use crate::nodes::{NONE, NodeTable};
 use seq_circle::Seq48;
 use std::marker::Model;
 
@@ -15,30 +15,32 @@ pub struct Stretch {
 /// The runs of a set from the newest downwards, as `RunList::walk` gives them. Contracts see those that are left.
 #[derive(Drop)]
 pub struct Walk<'a> {
-    nodes: &'a [Node],
+    nodes: &'a NodeTable,
     at: u16,
 }
 
 impl<'a> Model for Walk<'a> {
-    ghost use Rattle.std.specs.Prelude.{List};
+    ghost use Rattle.std.specs.Prelude.{List, length};
     ghost use Rattle.run_list.specs.declared.walking.Stretch.{Stretch};
     ghost use Rattle.run_list.specs.Linked.{IsChained, runs_from};
+    ghost use Rattle.run_list.specs.Nodes.{all_nodes};
 
     ghost Value = { List Stretch };
 
-    ghost view = { λ w. runs_from w.nodes.now w.at };
+    ghost view = { λ w. runs_from (all_nodes w.nodes.now) w.at };
 
-    ghost invariant = { λ w. IsChained w.nodes.now w.at };
+    ghost invariant = { λ w. IsChained (all_nodes w.nodes.now) w.at (length w.nodes.now) };
 }
 
 impl<'a> Walk<'a> {
-    ghost use Rattle.std.specs.Prelude.{◌≡◌};
+    ghost use Rattle.std.specs.Prelude.{◌≡◌, length};
     ghost use Rattle.run_list.specs.Linked.{IsChained, runs_from};
+    ghost use Rattle.run_list.specs.Nodes.{all_nodes};
 
     // The walk over the runs from a node on.
-    pub(crate) fn over(nodes: &'a [Node], at: u16) -> Walk<'a>
-        requires { IsChained nodes.now at }
-        ensures { result ≡ runs_from nodes.now at }
+    pub(crate) fn over(nodes: &'a NodeTable, at: u16) -> Walk<'a>
+        requires { IsChained (all_nodes nodes.now) at (length nodes.now) }
+        ensures { result ≡ runs_from (all_nodes nodes.now) at }
     {
         Walk { nodes, at }
     }
@@ -57,7 +59,7 @@ impl<'a> Iterator for Walk<'a> {
         if self.at == NONE {
             return None;
         }
-        let node = self.nodes[usize::from(self.at)];
+        let node = self.nodes.get(self.at);
         self.at = node.next;
         Some(Stretch {
             hi: node.hi,

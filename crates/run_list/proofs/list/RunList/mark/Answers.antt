@@ -2,7 +2,7 @@ use Rattle.std.proofs.Common.{◌≡◌, ℕ, ◌<◌, ◌≤◌, ◌^◌, false
 use Rattle.std.proofs.lemmas.Bool.{ltb-true}
 use Rattle.seq_circle.specs.Circle.{distance}
 use Rattle.run_list.specs.MarkedSet.{MarkedSet, IsSound, has, raised, floor_under}
-use Rattle.run_list.specs.Linked.{runs_from}
+use Rattle.run_list.specs.Linked.{linked_runs}
 use Rattle.run_list.proofs.Laid.{falling_numbers}
 use Rattle.run_list.proofs.Sets.{marked-near, marked-far, answer_to-near, answer_to-far, raised_absent, far_absent, again_iff, marked-other}
 use Rattle.run_list.proofs.list.RunList.mark.Goals as goal
@@ -13,7 +13,7 @@ returns-clause-set c =
     let sound : IsSound c.args.self.now = rw (← c.self.view_is) record {
       floor_fits = c.self.invariant.0;
       falling = falling_numbers c.self.inside.floor 2048
-          (runs_from c.self.inside.runs.nodes.items c.self.inside.runs.first) c.self.invariant.0 c.self.invariant.1;
+          (linked_runs c.self.inside.runs) c.self.invariant.0 c.self.invariant.1;
     } in
     let fits : c.args.n < 2 ^ 48 = search rules in
     let floor : c.self.inside.floor ≡ c.args.self.now.floor = ap (λ (s : MarkedSet). s.floor) c.self.view_is in
@@ -39,7 +39,7 @@ returns-clause-answer c =
     let sound : IsSound c.args.self.now = rw (← c.self.view_is) record {
       floor_fits = c.self.invariant.0;
       falling = falling_numbers c.self.inside.floor 2048
-          (runs_from c.self.inside.runs.nodes.items c.self.inside.runs.first) c.self.invariant.0 c.self.invariant.1;
+          (linked_runs c.self.inside.runs) c.self.invariant.0 c.self.invariant.1;
     } in
     let floor : c.self.inside.floor ≡ c.args.self.now.floor = ap (λ (s : MarkedSet). s.floor) c.self.view_is in
     let ahead : distance c.args.self.now.floor c.args.n < 2 ^ 47 =
