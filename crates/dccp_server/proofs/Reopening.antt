@@ -1,5 +1,5 @@
 -- What is kept of a server once a cookie was given or came back is what the definitions say.
-use Rattle.std.proofs.Common.{◌≡◌, refl, sym, ap, ◌∙◌, subst, ℕ, Bool, true, List, Option, Some, None, Result, Ok, Err}
+use Rattle.std.proofs.Common.{◌≡◌, refl, sym, ap, ◌∙◌, subst, ℕ, Bool, true, List, Option, Some, Result, Ok, Err}
 use Rattle.std.specs.Prelude.{IfOk, OnErr}
 use Rattle.dccp_packets.specs.Outgoing.{Outgoing}
 use Rattle.dccp_listener.specs.Greeting.{greets}
@@ -11,7 +11,7 @@ use Rattle.dccp_uses.specs.Upkeeps.{is_taken}
 use Rattle.init_cookies.specs.Openings.{OpeningState}
 use Rattle.init_cookies.specs.declared.cookie.CookieKeys.{CookieKeys}
 use Rattle.seq_circle.specs.declared.memory.NoMemory.{NoMemory}
-use Rattle.dccp_server.specs.Meeting.{IsGreeted, IsMet, MovesNobody, cleared, entry_met, going_by, greeting_frame, hurrying, received_hurrying, request_at, unreceived_hurrying, unreopened}
+use Rattle.dccp_server.specs.Meeting.{IsGreeted, IsMet, MovesNobody, cleared, entry_met, going_by, greeting_frame, heard_again, hurrying, maker_of, received_hurrying, request_at, unreceived_hurrying, unreopened}
 use Rattle.dccp_server.specs.Rooms.{IsServed, Reception, RuledRoom, received_at, unreceived_at}
 use Rattle.server_peers.specs.declared.asking.DatagramKind.{DatagramKind}
 use Rattle.server_peers.specs.declared.asking.DatagramKind.TheVariants as entry
@@ -39,17 +39,36 @@ module _ (now : ℕ) (s mid after last : RuledRoom) (peer : Peer) (iss : ℕ) (b
   hurried_shut (Err fault) is =
       last-is ∙ ap (going_by s.rules) is.0 ∙ ap (λ (x : RuledRoom). going_by s.rules (unreceived_at now x peer iss bytes evicted)) mid-is
 
--- the Request of an opening has arrived again, and no memory was found
-pub unopened : (now : ℕ) (s mid last : RuledRoom) (peer : Peer) (o : OpeningState) (time iss : ℕ) (bytes : List ℕ) (told : Result (Option Heard) NoMemory)
-    (evicted : Option Peer) → OnErr told (last ≡ unreceived_hurrying time mid peer iss bytes evicted) → time ≡ o.time → mid ≡ cleared now s peer
-    → iss ≡ o.iss → bytes ≡ request_at s peer o → OnErr told (last ≡ unreopened now s peer o evicted)
-unopened now s mid last peer o time iss bytes (Ok it) evicted is time-is mid-is iss-is bytes-is = tt
-unopened now s mid last peer o time iss bytes (Err fault) evicted is time-is mid-is iss-is bytes-is =
-    is
-    ∙ ap (λ (x : ℕ). unreceived_hurrying x mid peer iss bytes evicted) time-is
-    ∙ ap (λ (x : RuledRoom). unreceived_hurrying o.time x peer iss bytes evicted) mid-is
-    ∙ ap (λ (x : ℕ). unreceived_hurrying o.time (cleared now s peer) peer x bytes evicted) iss-is
-    ∙ ap (λ (x : List ℕ). unreceived_hurrying o.time (cleared now s peer) peer o.iss x evicted) bytes-is
+-- the Request of an opening has arrived again: as of its time, at the server without that flow
+
+module _ (now : ℕ) (s mid last : RuledRoom) (peer : Peer) (o : OpeningState) (time iss : ℕ) (bytes : List ℕ) (evicted : Option Peer) where
+  -- what is computed of these is computed of the opening
+  alike : {A : Type 0} (f : ℕ → RuledRoom → ℕ → List ℕ → A) → time ≡ o.time → mid ≡ cleared now s peer → iss ≡ o.iss → bytes ≡ request_at s peer o
+      → f time mid iss bytes ≡ f o.time (cleared now s peer) o.iss (request_at s peer o)
+  alike f time-is mid-is iss-is bytes-is =
+      ap (λ (x : ℕ). f x mid iss bytes) time-is
+      ∙ ap (λ (x : RuledRoom). f o.time x iss bytes) mid-is
+      ∙ ap (λ (x : ℕ). f o.time (cleared now s peer) x bytes) iss-is
+      ∙ ap (λ (x : List ℕ). f o.time (cleared now s peer) o.iss x) bytes-is
+
+  pub opened : (told : Result (Option Heard) NoMemory) → IfOk told (λ _. last ≡ received_hurrying time mid peer iss bytes) → time ≡ o.time
+      → mid ≡ cleared now s peer → iss ≡ o.iss → bytes ≡ request_at s peer o → IfOk told (λ _. last ≡ heard_again now s peer o)
+  opened (Ok it) is time-is mid-is iss-is bytes-is =
+      is ∙ alike (λ (t : ℕ) (x : RuledRoom) (i : ℕ) (b : List ℕ). received_hurrying t x peer i b) time-is mid-is iss-is bytes-is
+  opened (Err fault) is time-is mid-is iss-is bytes-is = tt
+
+  pub opened_for : (told : Result (Option Heard) NoMemory) → IfOk told (λ _. evicted ≡ (received_at time (hurrying mid) peer iss bytes).evicted)
+      → time ≡ o.time → mid ≡ cleared now s peer → iss ≡ o.iss → bytes ≡ request_at s peer o → IfOk told (λ _. evicted ≡ maker_of now s peer o)
+  opened_for (Ok it) is time-is mid-is iss-is bytes-is =
+      is ∙ alike (λ (t : ℕ) (x : RuledRoom) (i : ℕ) (b : List ℕ). (received_at t (hurrying x) peer i b).evicted) time-is mid-is iss-is bytes-is
+  opened_for (Err fault) is time-is mid-is iss-is bytes-is = tt
+
+  -- no memory was found
+  pub unopened : (told : Result (Option Heard) NoMemory) → OnErr told (last ≡ unreceived_hurrying time mid peer iss bytes evicted) → time ≡ o.time
+      → mid ≡ cleared now s peer → iss ≡ o.iss → bytes ≡ request_at s peer o → OnErr told (last ≡ unreopened now s peer o evicted)
+  unopened (Ok it) is time-is mid-is iss-is bytes-is = tt
+  unopened (Err fault) is time-is mid-is iss-is bytes-is =
+      is ∙ alike (λ (t : ℕ) (x : RuledRoom) (i : ℕ) (b : List ℕ). unreceived_hurrying t x peer i b evicted) time-is mid-is iss-is bytes-is
 
 -- a Request was greeted
 pub greeted : (now : ℕ) (s : RuledRoom) (peer : Peer) (iss : ℕ) (bytes : List ℕ) (frame : Option Outgoing) (told : Result (Option Heard) NoMemory)

@@ -1,5 +1,5 @@
 -- When a peer connects again while its old flow is there (own; RFC 4340, section 7.5.4).
-use Rattle.std.specs.Prelude.{◌&&◌, ℕ, Bool, not, List, is_some, if◌then◌else◌}
+use Rattle.std.specs.Prelude.{◌&&◌, ℕ, Bool, not, List, is_some}
 use Rattle.dccp_packets.specs.Grammar.{decoded}
 use Rattle.server_peers.specs.declared.life.Life.{Life}
 use Rattle.server_peers.specs.declared.life.Signs.{Signs}
