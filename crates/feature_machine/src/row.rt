@@ -34,8 +34,12 @@ pub struct Row {
     pub role: Role2,
     pub feature: Feature,
     pub place: Place,
-    pub value: u64,
     pub stand: Stand,
+    /// The offer that was not yet made.
+    pub offer: Offer,
+    /// Whether the Change of the active wish carries Mandatory.
+    pub mandatory: bool,
+    pub value: u64,
     /// What the row last sent, or its configured wish before that; None for a non-negotiable feature at the peer.
     pub active: Option<Wanted>,
     /// What it sends next, if it is UNSTABLE.
@@ -43,10 +47,6 @@ pub struct Row {
     /// The number of the packet with the last opening's first Change, once it was sent (FGSS of RFC 4340, section
     /// 6.6.4).
     pub opened: Option<Seq48>,
-    /// The offer that was not yet made.
-    pub offer: Offer,
-    /// Whether the Change of the active wish carries Mandatory.
-    pub mandatory: bool,
 }
 
 /// What a row replies to a Change.
