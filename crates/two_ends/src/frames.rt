@@ -69,7 +69,30 @@ pub(crate) fn take_memory(frames: &mut Vec<SentFrame>, spare: &mut Vec<u8>) -> R
 
 /// Keeps the frame that a step sent, if any, in memory that was taken before the step: a place in the list, and the
 /// spare block if a long frame gets no block of its own.
+#[inline(always)]
 pub(crate) fn keep_frame(
+    alloc: Global,
+    frames: &mut Vec<SentFrame>,
+    spare: &mut Vec<u8>,
+    out: &Outbox,
+    processed: u64,
+    floor: Seq48,
+)
+    requires place { HasPlace frames.old }
+    requires room { HasRoomForFrame spare.old }
+    requires empty { spare.old.items ≡ [] }
+    ensures sent { frames.new.items ≡ frames.old.items ++ as_sent processed floor out.now }
+    ensures still_empty { spare.new.items ≡ [] }
+{
+    match out.sent() {
+        Some(_) => keep_sent(alloc, frames, spare, out, processed, floor),
+        None => {}
+    }
+}
+
+// The same, as a separate function, so that a step which sent nothing costs no call.
+#[inline(never)]
+fn keep_sent(
     alloc: Global,
     frames: &mut Vec<SentFrame>,
     spare: &mut Vec<u8>,
