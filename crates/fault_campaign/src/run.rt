@@ -68,6 +68,7 @@ impl OngoingRun {
     /// Lets an event happen, and counts it (own); one that cannot happen changes nothing. NoMemory comes if there is
     /// none for a frame, and then nothing is promised about the run. The counts have room for 2^61 events.
     #[tactic(auto, unfolding(crate::specs::Seeded::played))]
+    #[inline(always)]
     pub fn play(&mut self, event: &Event) -> Result<(), NoMemory>
         requires { size self.old.report < 2 ^ 62 }
         ensures { OnOk result (self.new ≡ played self.old event.now) }
@@ -95,6 +96,7 @@ impl OngoingRun {
         (next_word(&mut self.words), next_word(&mut self.words))
     }
 
+    // Plays the next event. `play` is inlined, so that no kind of event is told from the others twice.
     fn go_on(&mut self, again: &mut EventKit) -> Result<(), NoMemory>
         requires { size self.old.report < 2 ^ 62 }
         ensures { OnOk result (self.new ≡ goes_on self.old) }
