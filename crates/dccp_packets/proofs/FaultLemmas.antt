@@ -73,17 +73,8 @@ to_type bytes enough = passed_by (nat_lt (length bytes) 12) Short (decoded_by (t
 
 -- codes below ten have a type
 type_some : (code : ℕ) → code < 10 → is_some (type_of code) ≡ true
-type_some zero h = refl
-type_some (suc zero) h = refl
-type_some (suc (suc zero)) h = refl
-type_some (suc (suc (suc zero))) h = refl
-type_some (suc (suc (suc (suc zero)))) h = refl
-type_some (suc (suc (suc (suc (suc zero))))) h = refl
-type_some (suc (suc (suc (suc (suc (suc zero)))))) h = refl
-type_some (suc (suc (suc (suc (suc (suc (suc zero))))))) h = refl
-type_some (suc (suc (suc (suc (suc (suc (suc (suc zero)))))))) h = refl
-type_some (suc (suc (suc (suc (suc (suc (suc (suc (suc zero))))))))) h = refl
 type_some (suc (suc (suc (suc (suc (suc (suc (suc (suc (suc n)))))))))) h = absurd (omega (arith, h))
+type_some _ h = refl
 
 no_type : (t : Option PacketType) (bytes : List ℕ) → decoded_by t bytes ≡ Err ReservedType → is_some t ≡ false
 no_type None bytes h = refl

@@ -18,44 +18,20 @@ forms_of_valid h valid = (and_parts (nat_lt h.ccval 16 && nat_lt h.cscov 16) (ha
 
 -- a Reset that fits has its detail
 pub detail_of_fits : (kind : Kind) → KindFits kind → HasDetail kind
-detail_of_fits (Request service) fits = tt
-detail_of_fits (Response ack service) fits = tt
-detail_of_fits Data fits = tt
-detail_of_fits (Ack ack) fits = tt
-detail_of_fits (DataAck ack) fits = tt
-detail_of_fits (CloseReq ack) fits = tt
-detail_of_fits (Close ack) fits = tt
 detail_of_fits (Reset ack code detail) fits = fits.2
-detail_of_fits (Sync ack) fits = tt
-detail_of_fits (SyncAck ack) fits = tt
+detail_of_fits _ fits = tt
 
 -- what follows the nine common bytes
 length-numbers : (number : Number) (kind : Kind) → HasDetail kind → has_forms (is_long number) kind ≡ true
     → 9 + length (number_bytes number ++ kind_bytes kind) ≡ fixed_length (is_long number) (packet_type kind)
-length-numbers (Long n) (Request service) detailed form = refl
-length-numbers (Long n) (Response ack service) detailed form = refl
-length-numbers (Long n) Data detailed form = refl
-length-numbers (Long n) (Ack (Long ack)) detailed form = refl
 length-numbers (Long n) (Ack (Short ack)) detailed form = absurd (false≢true form)
-length-numbers (Long n) (DataAck (Long ack)) detailed form = refl
 length-numbers (Long n) (DataAck (Short ack)) detailed form = absurd (false≢true form)
-length-numbers (Long n) (CloseReq ack) detailed form = refl
-length-numbers (Long n) (Close ack) detailed form = refl
 length-numbers (Long n) (Reset ack code detail) detailed form = let three : length detail ≡ 3 = detailed in omega (arith, three)
-length-numbers (Long n) (Sync ack) detailed form = refl
-length-numbers (Long n) (SyncAck ack) detailed form = refl
-length-numbers (Short n) (Request service) detailed form = absurd (false≢true form)
-length-numbers (Short n) (Response ack service) detailed form = absurd (false≢true form)
 length-numbers (Short n) Data detailed form = refl
-length-numbers (Short n) (Ack (Long ack)) detailed form = absurd (false≢true form)
 length-numbers (Short n) (Ack (Short ack)) detailed form = refl
-length-numbers (Short n) (DataAck (Long ack)) detailed form = absurd (false≢true form)
 length-numbers (Short n) (DataAck (Short ack)) detailed form = refl
-length-numbers (Short n) (CloseReq ack) detailed form = absurd (false≢true form)
-length-numbers (Short n) (Close ack) detailed form = absurd (false≢true form)
-length-numbers (Short n) (Reset ack code detail) detailed form = absurd (false≢true form)
-length-numbers (Short n) (Sync ack) detailed form = absurd (false≢true form)
-length-numbers (Short n) (SyncAck ack) detailed form = absurd (false≢true form)
+length-numbers (Long n) _ detailed form = refl
+length-numbers (Short n) _ detailed form = absurd (false≢true form)
 
 -- a header is spelled with as many bytes as its type and form have
 pub length-header_bytes : (h : Header) (words : ℕ) → HasDetail h.kind → IsTrue (is_valid h) → length (header_bytes h words) ≡ header_length h

@@ -203,17 +203,8 @@ row_again (Long n) (Reset ack code detail) b size row within bytes small none ze
           (joined (long_ack_bytes ack) (code ∷ detail) (drop size b) next
           (coded ∙ (ap (λ xs. code ∷ xs) detailed ∙ ap (λ k. code ∷ (detail ++ drop k b)) (sym row.1))));
     }
-row_again (Short n) (Request service) b size row within bytes small none zeros = absurd row
-row_again (Short n) (Response ack service) b size row within bytes small none zeros = absurd row
-row_again (Short n) (Ack (Long ack)) b size row within bytes small none zeros = absurd row
-row_again (Long n) (Ack (Short ack)) b size row within bytes small none zeros = absurd row
-row_again (Short n) (DataAck (Long ack)) b size row within bytes small none zeros = absurd row
-row_again (Long n) (DataAck (Short ack)) b size row within bytes small none zeros = absurd row
-row_again (Short n) (CloseReq ack) b size row within bytes small none zeros = absurd row
-row_again (Short n) (Close ack) b size row within bytes small none zeros = absurd row
-row_again (Short n) (Reset ack code detail) b size row within bytes small none zeros = absurd row
-row_again (Short n) (Sync ack) b size row within bytes small none zeros = absurd row
-row_again (Short n) (SyncAck ack) b size row within bytes small none zeros = absurd row
+row_again (Long n) _ b size row within bytes small none zeros = absurd row
+row_again (Short n) _ b size row within bytes small none zeros = absurd row
 
 pub one_spelling : (h : Header) (o d bytes : List ℕ) → IsPacket h o d bytes → AreBytes bytes → HasZeros h bytes → bytes ≡ spelling h o d
 one_spelling h o d bytes packet small zeros =

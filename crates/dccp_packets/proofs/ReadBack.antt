@@ -31,50 +31,25 @@ kind_again (Long n) (Response ack service) detailed form h words rest =
     same_response (big_from-bytes 6 ack (big_bytes 4 service ++ rest)) (big_from-bytes 4 service rest)
 kind_again (Long n) Data detailed form h words rest = refl
 kind_again (Long n) (Ack (Long ack)) detailed form h words rest = ap (λ x. Ack (Long x)) (big_from-bytes 6 ack rest)
-kind_again (Long n) (Ack (Short ack)) detailed form h words rest = absurd (false≢true form)
 kind_again (Long n) (DataAck (Long ack)) detailed form h words rest = ap (λ x. DataAck (Long x)) (big_from-bytes 6 ack rest)
-kind_again (Long n) (DataAck (Short ack)) detailed form h words rest = absurd (false≢true form)
 kind_again (Long n) (CloseReq ack) detailed form h words rest = ap CloseReq (big_from-bytes 6 ack rest)
 kind_again (Long n) (Close ack) detailed form h words rest = ap Close (big_from-bytes 6 ack rest)
 kind_again (Long n) (Reset ack code detail) detailed form h words rest =
     same_reset (big_from-bytes 6 ack (code ∷ (detail ++ rest))) refl (take_at detail rest 3 detailed)
 kind_again (Long n) (Sync ack) detailed form h words rest = ap Sync (big_from-bytes 6 ack rest)
 kind_again (Long n) (SyncAck ack) detailed form h words rest = ap SyncAck (big_from-bytes 6 ack rest)
-kind_again (Short n) (Request service) detailed form h words rest = absurd (false≢true form)
-kind_again (Short n) (Response ack service) detailed form h words rest = absurd (false≢true form)
 kind_again (Short n) Data detailed form h words rest = refl
-kind_again (Short n) (Ack (Long ack)) detailed form h words rest = absurd (false≢true form)
 kind_again (Short n) (Ack (Short ack)) detailed form h words rest = ap (λ x. Ack (Short x)) (big_from-bytes 3 ack rest)
-kind_again (Short n) (DataAck (Long ack)) detailed form h words rest = absurd (false≢true form)
 kind_again (Short n) (DataAck (Short ack)) detailed form h words rest = ap (λ x. DataAck (Short x)) (big_from-bytes 3 ack rest)
-kind_again (Short n) (CloseReq ack) detailed form h words rest = absurd (false≢true form)
-kind_again (Short n) (Close ack) detailed form h words rest = absurd (false≢true form)
-kind_again (Short n) (Reset ack code detail) detailed form h words rest = absurd (false≢true form)
-kind_again (Short n) (Sync ack) detailed form h words rest = absurd (false≢true form)
-kind_again (Short n) (SyncAck ack) detailed form h words rest = absurd (false≢true form)
+kind_again (Long n) _ detailed form h words rest = absurd (false≢true form)
+kind_again (Short n) _ detailed form h words rest = absurd (false≢true form)
 
 -- the type, above X
 type_again : (kind : PacketType) (long : Bool) → type_of ((2 * code_of kind + (if long then 1 else 0)) / 2 % 16) ≡ Some kind
 type_again types.Request true = refl
 type_again types.Request false = refl
-type_again types.Response true = refl
-type_again types.Response false = refl
-type_again types.Data true = refl
-type_again types.Data false = refl
-type_again types.Ack true = refl
-type_again types.Ack false = refl
-type_again types.DataAck true = refl
-type_again types.DataAck false = refl
-type_again types.CloseReq true = refl
-type_again types.CloseReq false = refl
-type_again types.Close true = refl
-type_again types.Close false = refl
-type_again types.Reset true = refl
-type_again types.Reset false = refl
-type_again types.Sync true = refl
-type_again types.Sync false = refl
-type_again types.SyncAck true = refl
-type_again types.SyncAck false = refl
+type_again _ true = refl
+type_again _ false = refl
 
 -- X
 x_again : (code : ℕ) (long : Bool) → ((2 * code + (if long then 1 else 0)) % 2 == 1) ≡ long
@@ -83,16 +58,10 @@ x_again code false = let even : (2 * code + 0) % 2 ≡ 0 = omega arith in ap (λ
 
 -- a type that may not carry short numbers is not valid with them
 form_again : (long : Bool) (kind : Kind) → has_forms long kind ≡ true → has_form long (packet_type kind) ≡ true
-form_again long (Request service) form = form
-form_again long (Response ack service) form = form
 form_again long Data form = refl
 form_again long (Ack ack) form = refl
 form_again long (DataAck ack) form = refl
-form_again long (CloseReq ack) form = form
-form_again long (Close ack) form = form
-form_again long (Reset ack code detail) form = form
-form_again long (Sync ack) form = form
-form_again long (SyncAck ack) form = form
+form_again long _ form = form
 
 -- the fields of a header, from the front of its spelling
 header_again : (h : Header) (words : ℕ) (rest : List ℕ) → HasDetail h.kind → IsTrue (is_valid h)

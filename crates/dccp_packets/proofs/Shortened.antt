@@ -17,15 +17,7 @@ use Rattle.dccp_packets.specs.Widths.{HasDetail}
 pub type_in_form : (short : Bool) (k : Kind) → packet_type (in_form short k) ≡ packet_type k
 type_in_form false k = refl
 type_in_form true (kind.Request service) = refl
-type_in_form true (kind.Response ack service) = refl
-type_in_form true kind.Data = refl
-type_in_form true (kind.Ack ack) = refl
-type_in_form true (kind.DataAck ack) = refl
-type_in_form true (kind.CloseReq ack) = refl
-type_in_form true (kind.Close ack) = refl
-type_in_form true (kind.Reset ack code detail) = refl
-type_in_form true (kind.Sync ack) = refl
-type_in_form true (kind.SyncAck ack) = refl
+type_in_form true _ = refl
 
 pub number_form : (short : Bool) (n : ℕ) → is_long (number_in_form short n) ≡ not short
 number_form true n = refl
@@ -34,45 +26,23 @@ number_form false n = refl
 pub formed : (short : Bool) (k : Kind) → has_forms true k ≡ true → (short ≡ true → may_be_short (packet_type k) ≡ true)
     → has_forms (not short) (in_form short k) ≡ true
 formed false k long may = long
-formed true (kind.Request service) long may = may refl
-formed true (kind.Response ack service) long may = may refl
 formed true kind.Data long may = refl
 formed true (kind.Ack (Long ack)) long may = refl
 formed true (kind.Ack (Short ack)) long may = refl
 formed true (kind.DataAck (Long ack)) long may = refl
 formed true (kind.DataAck (Short ack)) long may = refl
-formed true (kind.CloseReq ack) long may = may refl
-formed true (kind.Close ack) long may = may refl
-formed true (kind.Reset ack code detail) long may = may refl
-formed true (kind.Sync ack) long may = may refl
-formed true (kind.SyncAck ack) long may = may refl
+formed true _ long may = may refl
 
 -- no type is longer in its short form
 pub no_longer : (short : Bool) (t : PacketType) → fixed_length (not short) t ≤ fixed_length true t
 no_longer false t = omega arith
 no_longer true types.Request = omega arith
-no_longer true types.Response = omega arith
-no_longer true types.Data = omega arith
-no_longer true types.Ack = omega arith
-no_longer true types.DataAck = omega arith
-no_longer true types.CloseReq = omega arith
-no_longer true types.Close = omega arith
-no_longer true types.Reset = omega arith
-no_longer true types.Sync = omega arith
-no_longer true types.SyncAck = omega arith
+no_longer true _ = omega arith
 
 pub detail_in_form : (short : Bool) (k : Kind) → HasDetail k → HasDetail (in_form short k)
 detail_in_form false k has = has
-detail_in_form true (kind.Request service) has = tt
-detail_in_form true (kind.Response ack service) has = tt
-detail_in_form true kind.Data has = tt
-detail_in_form true (kind.Ack ack) has = tt
-detail_in_form true (kind.DataAck ack) has = tt
-detail_in_form true (kind.CloseReq ack) has = tt
-detail_in_form true (kind.Close ack) has = tt
 detail_in_form true (kind.Reset ack code detail) has = has
-detail_in_form true (kind.Sync ack) has = tt
-detail_in_form true (kind.SyncAck ack) has = tt
+detail_in_form true _ has = tt
 
 pub number_fits : (short : Bool) (n : ℕ) → n < 2 ^ 48 → NumberFits (number_in_form short n)
 number_fits true n fits = omega arith
@@ -84,16 +54,10 @@ shortened_fits (Short n) fits = fits
 
 pub kind_fits : (short : Bool) (k : Kind) → KindFits k → KindFits (in_form short k)
 kind_fits false k fits = fits
-kind_fits true (kind.Request service) fits = fits
-kind_fits true (kind.Response ack service) fits = fits
 kind_fits true kind.Data fits = tt
 kind_fits true (kind.Ack ack) fits = shortened_fits ack fits
 kind_fits true (kind.DataAck ack) fits = shortened_fits ack fits
-kind_fits true (kind.CloseReq ack) fits = fits
-kind_fits true (kind.Close ack) fits = fits
-kind_fits true (kind.Reset ack code detail) fits = fits
-kind_fits true (kind.Sync ack) fits = fits
-kind_fits true (kind.SyncAck ack) fits = fits
+kind_fits true _ fits = fits
 
 -- a number in either form is read in full
 pub number_found : (short : Bool) (n reference : ℕ) → n < 2 ^ 48 → reference < 2 ^ 48 → (short ≡ true → is_far n reference ≡ false)
@@ -103,18 +67,9 @@ number_found false n reference fits within near_enough = refl
 
 -- an acknowledgement number in the long form is read as it stands
 pub long_read : (k : Kind) (reference : ℕ) → has_forms true k ≡ true → ack_near reference k ≡ ack_of k
-long_read (kind.Request service) reference long = refl
-long_read (kind.Response ack service) reference long = refl
-long_read kind.Data reference long = refl
-long_read (kind.Ack (Long ack)) reference long = refl
 long_read (kind.Ack (Short ack)) reference long = cc long
-long_read (kind.DataAck (Long ack)) reference long = refl
 long_read (kind.DataAck (Short ack)) reference long = cc long
-long_read (kind.CloseReq ack) reference long = refl
-long_read (kind.Close ack) reference long = refl
-long_read (kind.Reset ack code detail) reference long = refl
-long_read (kind.Sync ack) reference long = refl
-long_read (kind.SyncAck ack) reference long = refl
+long_read _ reference long = refl
 
 -- and so is the acknowledgement number of a packet whose numbers are in the form
 pub ack_found : (short : Bool) (k : Kind) (reference : ℕ) → KindFits k → has_forms true k ≡ true → reference < 2 ^ 48
@@ -124,11 +79,4 @@ ack_found true (kind.Ack (Long ack)) reference fits long within near_enough = ap
 ack_found true (kind.Ack (Short ack)) reference fits long within near_enough = cc long
 ack_found true (kind.DataAck (Long ack)) reference fits long within near_enough = ap Some (finds-near ack reference fits within (near_enough refl))
 ack_found true (kind.DataAck (Short ack)) reference fits long within near_enough = cc long
-ack_found true (kind.Request service) reference fits long within near_enough = refl
-ack_found true (kind.Response ack service) reference fits long within near_enough = refl
-ack_found true kind.Data reference fits long within near_enough = refl
-ack_found true (kind.CloseReq ack) reference fits long within near_enough = refl
-ack_found true (kind.Close ack) reference fits long within near_enough = refl
-ack_found true (kind.Reset ack code detail) reference fits long within near_enough = refl
-ack_found true (kind.Sync ack) reference fits long within near_enough = refl
-ack_found true (kind.SyncAck ack) reference fits long within near_enough = refl
+ack_found true _ reference fits long within near_enough = refl

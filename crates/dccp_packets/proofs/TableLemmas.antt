@@ -75,17 +75,8 @@ row_read (Long n) (Reset ack code detail) b size row =
     long_row 7 n (Reset ack code detail) b size (omega arith) refl refl row.0 row.1 row.2 (same_reset (sym row.3) (sym row.4) (sym row.5))
 row_read (Long n) (Sync ack) b size row = long_row 8 n (Sync ack) b size (omega arith) refl refl row.0 row.1 row.2 (ap Sync (sym row.3))
 row_read (Long n) (SyncAck ack) b size row = long_row 9 n (SyncAck ack) b size (omega arith) refl refl row.0 row.1 row.2 (ap SyncAck (sym row.3))
-row_read (Short n) (Request service) b size row = absurd row
-row_read (Short n) (Response ack service) b size row = absurd row
-row_read (Short n) (Ack (Long ack)) b size row = absurd row
-row_read (Long n) (Ack (Short ack)) b size row = absurd row
-row_read (Short n) (DataAck (Long ack)) b size row = absurd row
-row_read (Long n) (DataAck (Short ack)) b size row = absurd row
-row_read (Short n) (CloseReq ack) b size row = absurd row
-row_read (Short n) (Close ack) b size row = absurd row
-row_read (Short n) (Reset ack code detail) b size row = absurd row
-row_read (Short n) (Sync ack) b size row = absurd row
-row_read (Short n) (SyncAck ack) b size row = absurd row
+row_read (Long n) _ b size row = absurd row
+row_read (Short n) _ b size row = absurd row
 
 -- what is in the table is read
 pub table_read : (h : Header) (o d bytes : List ℕ) → IsPacket h o d bytes → decoded bytes ≡ Ok (record { header = h; options = o; payload = d })
@@ -189,18 +180,9 @@ code_at None = 10
 code_at (Some kind) = code_of kind
 
 code_found : (code : ℕ) (kind : PacketType) → type_of code ≡ Some kind → code ≡ code_of kind
-code_found zero kind h = ap code_at h
-code_found (suc zero) kind h = ap code_at h
-code_found (suc (suc zero)) kind h = ap code_at h
-code_found (suc (suc (suc zero))) kind h = ap code_at h
-code_found (suc (suc (suc (suc zero)))) kind h = ap code_at h
-code_found (suc (suc (suc (suc (suc zero))))) kind h = ap code_at h
-code_found (suc (suc (suc (suc (suc (suc zero)))))) kind h = ap code_at h
-code_found (suc (suc (suc (suc (suc (suc (suc zero))))))) kind h = ap code_at h
-code_found (suc (suc (suc (suc (suc (suc (suc (suc zero)))))))) kind h = ap code_at h
-code_found (suc (suc (suc (suc (suc (suc (suc (suc (suc zero))))))))) kind h = ap code_at h
 code_found (suc (suc (suc (suc (suc (suc (suc (suc (suc (suc n)))))))))) kind h =
     absurd (false≢true (ap is_some (sym (type_none (suc (suc (suc (suc (suc (suc (suc (suc (suc (suc n)))))))))) (omega arith)) ∙ h)))
+code_found _ kind h = ap code_at h
 
 x_at : (x : Bool) (n : ℕ) → (n == 1) ≡ x → n < 2 → n ≡ (if x then 1 else 0)
 x_at true n h small = eqb-true n 1 h
@@ -219,26 +201,14 @@ type_found kind bytes h =
 
 row_found : (kind : PacketType) (long : Bool) (b : List ℕ) → HasType (code_of kind) (if long then 1 else 0) b → has_form long kind ≡ true
     → IsRow (number_in long b) (kind_of kind long b) b (fixed_length long kind)
-row_found types.Request true b has form = (has, refl, refl, refl)
 row_found types.Response true b has form = (has, refl, refl, refl, refl)
 row_found types.Data true b has form = (has, refl, refl)
 row_found types.Data false b has form = (has, refl, refl)
-row_found types.Ack true b has form = (has, refl, refl, refl)
 row_found types.Ack false b has form = (has, refl, refl, refl)
-row_found types.DataAck true b has form = (has, refl, refl, refl)
 row_found types.DataAck false b has form = (has, refl, refl, refl)
-row_found types.CloseReq true b has form = (has, refl, refl, refl)
-row_found types.Close true b has form = (has, refl, refl, refl)
 row_found types.Reset true b has form = (has, refl, refl, refl, refl, refl)
-row_found types.Sync true b has form = (has, refl, refl, refl)
-row_found types.SyncAck true b has form = (has, refl, refl, refl)
-row_found types.Request false b has form = absurd (false≢true form)
-row_found types.Response false b has form = absurd (false≢true form)
-row_found types.CloseReq false b has form = absurd (false≢true form)
-row_found types.Close false b has form = absurd (false≢true form)
-row_found types.Reset false b has form = absurd (false≢true form)
-row_found types.Sync false b has form = absurd (false≢true form)
-row_found types.SyncAck false b has form = absurd (false≢true form)
+row_found _ true b has form = (has, refl, refl, refl)
+row_found _ false b has form = absurd (false≢true form)
 
 -- what is read is in the table
 read_packet : (kind : PacketType) (bytes : List ℕ) → type_of (type_code bytes) ≡ Some kind

@@ -65,16 +65,10 @@ from_first first low high None before lies = tt
 from_first first low high (Some ack) before lies = (omega (arith, before, lies.0), lies.1)
 
 acks_lie : (w : Marks) (kind : PacketType) (n : ℕ) (ack : Option ℕ) → IsWhole w → HasValidNumbers w kind n ack → AckLies w.iss w.gss ack
-acks_lie w types.Request n ack whole valid = from_first w.iss (whole_ack_low w) w.gss ack (omega arith) valid.2
-acks_lie w types.Response n ack whole valid = from_first w.iss (whole_ack_low w) w.gss ack (omega arith) valid.2
-acks_lie w types.Data n ack whole valid = from_first w.iss (whole_ack_low w) w.gss ack (omega arith) valid.2
-acks_lie w types.Ack n ack whole valid = from_first w.iss (whole_ack_low w) w.gss ack (omega arith) valid.2
-acks_lie w types.DataAck n ack whole valid = from_first w.iss (whole_ack_low w) w.gss ack (omega arith) valid.2
 acks_lie w types.CloseReq n ack whole valid = from_first w.iss w.gar w.gss ack whole.acknowledged valid.2
 acks_lie w types.Close n ack whole valid = from_first w.iss w.gar w.gss ack whole.acknowledged valid.2
 acks_lie w types.Reset n ack whole valid = from_first w.iss w.gar w.gss ack whole.acknowledged valid.2
-acks_lie w types.Sync n ack whole valid = from_first w.iss (whole_ack_low w) w.gss ack (omega arith) valid.2
-acks_lie w types.SyncAck n ack whole valid = from_first w.iss (whole_ack_low w) w.gss ack (omega arith) valid.2
+acks_lie w _ n ack whole valid = from_first w.iss (whole_ack_low w) w.gss ack (omega arith) valid.2
 
 gar-max : (w : Marks) (ack : ℕ) → IsWhole w → (w.iss ≤ ack) × (ack ≤ w.gss) → later_of (residue w.gar) (residue ack) ≡ residue (max w.gar ack)
 gar-max w ack whole lies =

@@ -97,26 +97,18 @@ valid_from_low_end w n ack whole range after near turn =
 
 pub valid_by_whole : (w : Marks) (kind : PacketType) (n : ℕ) (ack : Option ℕ) → IsWhole w → InRange w → w.isr ≤ n → n < w.isr + 2 ^ 48
     → IsAckOfTurn w.iss ack → (verdict (residues w) kind (residue n) (residue_of ack) ≡ Valid) ↔ HasValidNumbers w kind n ack
-valid_by_whole w types.Request n ack whole range after near turn = valid_in_window w n ack whole range after near turn
-valid_by_whole w types.Response n ack whole range after near turn = valid_in_window w n ack whole range after near turn
-valid_by_whole w types.Data n ack whole range after near turn = valid_in_window w n ack whole range after near turn
-valid_by_whole w types.Ack n ack whole range after near turn = valid_in_window w n ack whole range after near turn
-valid_by_whole w types.DataAck n ack whole range after near turn = valid_in_window w n ack whole range after near turn
 valid_by_whole w types.CloseReq n ack whole range after near turn = valid_after_greatest w n ack (residue n) whole range after near turn
 valid_by_whole w types.Close n ack whole range after near turn = valid_after_greatest w n ack (residue n) whole range after near turn
 valid_by_whole w types.Reset n ack whole range after near turn = valid_after_greatest w n ack (residue w.gsr) whole range after near turn
 valid_by_whole w types.Sync n ack whole range after near turn = valid_from_low_end w n ack whole range after near turn
 valid_by_whole w types.SyncAck n ack whole range after near turn = valid_from_low_end w n ack whole range after near turn
+valid_by_whole w _ n ack whole range after near turn = valid_in_window w n ack whole range after near turn
 
 pub otherwise_refused : (m : Marks) (kind : PacketType) (number : ℕ) (ack : Option ℕ) → verdict m kind number ack ≢ Valid
     → verdict m kind number ack ≡ refusal m kind number
-otherwise_refused m types.Request number ack never = other_answer (is_in_window m number && is_ack_within (ack_low m) (ack_high m) ack) (SyncFor number) never
-otherwise_refused m types.Response number ack never = other_answer (is_in_window m number && is_ack_within (ack_low m) (ack_high m) ack) (SyncFor number) never
-otherwise_refused m types.Data number ack never = other_answer (is_in_window m number && is_ack_within (ack_low m) (ack_high m) ack) (SyncFor number) never
-otherwise_refused m types.Ack number ack never = other_answer (is_in_window m number && is_ack_within (ack_low m) (ack_high m) ack) (SyncFor number) never
-otherwise_refused m types.DataAck number ack never = other_answer (is_in_window m number && is_ack_within (ack_low m) (ack_high m) ack) (SyncFor number) never
 otherwise_refused m types.CloseReq number ack never = other_answer (is_after_greatest m number && is_ack_within m.gar (ack_high m) ack) (SyncFor number) never
 otherwise_refused m types.Close number ack never = other_answer (is_after_greatest m number && is_ack_within m.gar (ack_high m) ack) (SyncFor number) never
 otherwise_refused m types.Reset number ack never = other_answer (is_after_greatest m number && is_ack_within m.gar (ack_high m) ack) (SyncFor m.gsr) never
 otherwise_refused m types.Sync number ack never = other_answer (is_not_old m number && is_ack_within (ack_low m) (ack_high m) ack) Drop never
 otherwise_refused m types.SyncAck number ack never = other_answer (is_not_old m number && is_ack_within (ack_low m) (ack_high m) ack) Drop never
+otherwise_refused m _ number ack never = other_answer (is_in_window m number && is_ack_within (ack_low m) (ack_high m) ack) (SyncFor number) never
