@@ -3,6 +3,9 @@ use Rattle.std.proofs.Common.{◌≡◌, ◌<◌, ◌≤◌, ℕ, Bool, false, i
 use Rattle.std.proofs.lemmas.Bool.{le-leb, lt-leb}
 use Rattle.ack_vectors.specs.Vector.{option_data}
 use Rattle.dccp_options.specs.Written.{Item, spelled, written}
+use Rattle.dccp_packets.specs.Beginning.{Begins}
+use Rattle.dccp_packets.specs.Grammar.{header_bytes}
+use Rattle.dccp_packets.specs.declared.header.Header.{Header}
 use Rattle.dccp_endpoint.specs.Reporting.{vector_item}
 
 -- options of two lists
@@ -37,3 +40,11 @@ vector_in_two bytes long =
     let first : List ℕ = spelled false 38 (take 253 bytes) in
     let second : List ℕ = spelled false 38 (drop 253 bytes) in
     sym (ap (vector_in bytes) (lt-leb (length bytes) 253 long) ∙ ap (λ (rest : List ℕ). first ++ rest) (append-nil second))
+
+-- what is appended to a packet that has begun are further options
+pub begins_on : (header : Header) (area more bytes next : List ℕ) → Begins header area bytes → next ≡ bytes ++ more → Begins header (area ++ more) next
+begins_on header area more bytes next begins is =
+    record {
+      is = is ∙ ap (λ (front : List ℕ). front ++ more) begins.is ∙ append_assoc (header_bytes header 0) area more;
+      whole = begins.whole;
+    }

@@ -5,7 +5,7 @@
 //! for each of the 18 rows: 354 bytes. If each were counted as 12, they would not fit together with a vector.
 ghost use Rattle.std.specs.Prelude.{◌≡◌, ◌+◌, ◌*◌, ◌<◌, ◌≤◌, ◌++◌, [], ◌∷◌, length, true, false, Some};
 ghost use Rattle.arrayvec.specs.ArrayVec.{array_vec_len};
-ghost use Rattle.dccp_options.specs.Written.{written};
+ghost use Rattle.dccp_options.specs.Written.{spelled, written};
 ghost use Rattle.feature_lists.specs.Wishes.{is_wish};
 ghost use Rattle.feature_machine.specs.Negotiating.{IsNegotiation, every_place, row_at};
 ghost use Rattle.feature_machine.specs.Turns.{turned};
@@ -14,8 +14,8 @@ ghost use Rattle.dccp_endpoint.specs.Speaking.{AreChanging, AreDue, asking, chan
 ghost use Rattle.dccp_endpoint.specs.Turns.{offerings, sendings};
 
 use arrayvec::ArrayVec;
-use dccp_options::OptWriter;
-use dccp_options::kinds::{CHANGE_L, CHANGE_R, CONFIRM_L, CONFIRM_R};
+use dccp_options::kinds::{CHANGE_L, CHANGE_R, CONFIRM_L, CONFIRM_R, MANDATORY};
+use dccp_packets::Frame;
 use feature_lists::{Feature, Place, Wanted};
 use feature_machine::{ConfirmOut, Negotiation, Stand, put_value};
 use seq_circle::Seq48;
@@ -245,47 +245,61 @@ fn change_body(rows: &Negotiation, feature: Feature, place: Place) -> ArrayVec<u
     body
 }
 
+/// Appends an option of a type from 32 on: a Mandatory before it if it is to be marked, its type, its length and its
+/// data (RFC 4340, section 5.8).
+pub(crate) fn put_option(frame: &mut Frame, mandatory: bool, kind: u8, body: &[u8])
+    requires fits { length body.now ≤ 253 }
+    requires room { length frame.old + length body.now + 3 ≤ 2044 }
+    ensures bytes { frame.new ≡ frame.old ++ spelled mandatory kind body.now }
+    ensures long { length frame.new ≡ length frame.old + length (spelled mandatory kind body.now) }
+{
+    if mandatory {
+        frame.append(&[MANDATORY]);
+    }
+    frame.append(&[kind, (body.len() + 2) as u8]);
+    frame.append(body);
+}
+
 // Writes the Change of a row that is in CHANGING.
-fn put_change(area: &mut OptWriter, rows: &Negotiation, feature: Feature, place: Place)
-    requires room { length area.old + 12 ≤ 1008 }
+fn put_change(frame: &mut Frame, rows: &Negotiation, feature: Feature, place: Place)
+    requires room { length frame.old + 12 ≤ 2044 }
     requires changing { (row_at rows.now feature place).stand ≡ Changing }
-    ensures bytes { area.new ≡ area.old ++ written (change_item (feature, place) (row_at rows.now feature place) ∷ []) }
-    ensures short { length area.new ≤ length area.old + 12 }
+    ensures bytes { frame.new ≡ frame.old ++ written (change_item (feature, place) (row_at rows.now feature place) ∷ []) }
+    ensures short { length frame.new ≤ length frame.old + 12 }
 {
     let body = change_body(rows, feature, place);
     let mandatory = rows.mandatory(feature, place);
-    let _ = area.put(mandatory, change_type(place), body.as_slice());
+    put_option(frame, mandatory, change_type(place), body.as_slice());
 }
 
 /// Writes the Changes of rows that are in CHANGING.
-pub(crate) fn put_changes(area: &mut OptWriter, rows: &Negotiation, keys: &[(Feature, Place)])
-    requires room { length area.old + 12 * length keys.now ≤ 1008 }
+pub(crate) fn put_changes(frame: &mut Frame, rows: &Negotiation, keys: &[(Feature, Place)])
+    requires room { length frame.old + 12 * length keys.now ≤ 2044 }
     requires changing { AreChanging rows.now keys.now }
-    ensures bytes { area.new ≡ area.old ++ written (change_items rows.now keys.now) }
-    ensures short { length area.new ≤ length area.old + 12 * length keys.now }
+    ensures bytes { frame.new ≡ frame.old ++ written (change_items rows.now keys.now) }
+    ensures short { length frame.new ≤ length frame.old + 12 * length keys.now }
 {
     for (feature, place) in keys {
-        put_change(area, rows, *feature, *place);
+        put_change(frame, rows, *feature, *place);
     }
 }
 
-fn put_confirm(area: &mut OptWriter, confirm: &DueConfirm)
-    requires room { length area.old + length (written (confirm_item confirm.now ∷ [])) ≤ 1008 }
-    ensures { area.new ≡ area.old ++ written (confirm_item confirm.now ∷ []) }
+fn put_confirm(frame: &mut Frame, confirm: &DueConfirm)
+    requires room { length frame.old + length (written (confirm_item confirm.now ∷ [])) ≤ 2044 }
+    ensures { frame.new ≡ frame.old ++ written (confirm_item confirm.now ∷ []) }
 {
-    let mut body = ArrayVec::<u8, 10>::new();
-    body.push(confirm.number);
-    let _ = body.try_extend_from_slice(&confirm.bytes[..usize::from(confirm.count)]);
-    let _ = area.put(false, confirm_type(confirm.left), body.as_slice());
+    let kind = confirm_type(confirm.left);
+    frame.append(&[kind, confirm.count + 3, confirm.number]);
+    frame.append(&confirm.bytes[..usize::from(confirm.count)]);
 }
 
 /// Writes Confirms.
-pub(crate) fn put_confirms(area: &mut OptWriter, confirms: &[DueConfirm])
-    requires room { length area.old + length (written (confirm_items confirms.now)) ≤ 1008 }
-    ensures bytes { area.new ≡ area.old ++ written (confirm_items confirms.now) }
-    ensures long { length area.new ≡ length area.old + length (written (confirm_items confirms.now)) }
+pub(crate) fn put_confirms(frame: &mut Frame, confirms: &[DueConfirm])
+    requires room { length frame.old + length (written (confirm_items confirms.now)) ≤ 2044 }
+    ensures bytes { frame.new ≡ frame.old ++ written (confirm_items confirms.now) }
+    ensures long { length frame.new ≡ length frame.old + length (written (confirm_items confirms.now)) }
 {
     for confirm in confirms {
-        put_confirm(area, confirm);
+        put_confirm(frame, confirm);
     }
 }

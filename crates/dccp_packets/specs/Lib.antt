@@ -1,3 +1,4 @@
+pub mod Beginning
 pub mod Forms
 pub mod Grammar
 pub mod Kinds

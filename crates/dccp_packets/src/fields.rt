@@ -7,17 +7,17 @@ use crate::{Header, Kind, Number, PacketType};
 use byteorder::{BigEndian, ByteOrder};
 use seq_circle::{Seq24, Seq48};
 
-const SOURCE_PORT: usize = 0;
+pub(crate) const SOURCE_PORT: usize = 0;
 
-const DESTINATION_PORT: usize = 2;
+pub(crate) const DESTINATION_PORT: usize = 2;
 
-const DATA_OFFSET: usize = 4;
+pub(crate) const DATA_OFFSET: usize = 4;
 
-const COVERAGE: usize = 5;
+pub(crate) const COVERAGE: usize = 5;
 
-const CHECKSUM: usize = 6;
+pub(crate) const CHECKSUM: usize = 6;
 
-const TYPE: usize = 8;
+pub(crate) const TYPE: usize = 8;
 
 // Long numbers follow reserved bytes, and so does a short acknowledgement.
 const SHORT_NUMBER: usize = 9;

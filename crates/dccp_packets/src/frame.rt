@@ -1,5 +1,5 @@
 //! The bytes of one packet, and the place where an end leaves it with its numbers.
-ghost use Rattle.std.specs.Prelude.{◌≡◌, ◌+◌, ◌<◌, ◌≤◌, ◌↔◌, [], ◌++◌, length, Some, None, IsSome, IfSome, MatchOption};
+ghost use Rattle.std.specs.Prelude.{◌≡◌, ◌+◌, ◌<◌, ◌≤◌, ◌↔◌, [], ◌++◌, length, slice_set, Some, None, IsSome, IfSome, MatchOption};
 ghost use Rattle.std.specs.Borrow.{sem};
 
 use arrayvec::ArrayVec;
@@ -73,8 +73,17 @@ impl Frame {
         self.bytes.clear();
     }
 
+    // Puts a byte in the place of one that is there.
+    pub(crate) fn set(&mut self, place: usize, byte: u8)
+        requires { place < length self.old }
+        ensures { self.new ≡ slice_set self.old place byte }
+    {
+        self.bytes[place] = byte;
+    }
+
+    /// Appends bytes. There must be room: a frame has at most 2,044.
     // Many frames have no options or no data, so a copy of no bytes is not begun.
-    pub(crate) fn append(&mut self, piece: &[u8])
+    pub fn append(&mut self, piece: &[u8])
         requires { length self.old + length piece.now ≤ 2044 }
         ensures { self.new ≡ self.old ++ piece.now }
     {

@@ -22,4 +22,4 @@ pub use crate::laws::{
 };
 pub use crate::reading::{Malformed, Packet, decode};
 pub use crate::reset_code::ResetCode;
-pub use crate::writing::{OptionsTooLong, encode};
+pub use crate::writing::{OptionsTooLong, begin, encode, finish};

@@ -2,15 +2,19 @@
 //!
 //! The contract of `encode` says also that its frame is read back. So no caller has to know the widths of fields after
 //! a reference.
-ghost use Rattle.std.specs.Prelude.{◌≡◌, ◌+◌, ◌*◌, ◌/◌, ◌%◌, ◌-◌, ◌^◌, ◌<◌, ◌≤◌, ◌↔◌, ◌∷◌, [], ◌++◌, length, replicate, IsTrue, IsErr, OnOk, OnErr};
+ghost use Rattle.std.specs.Prelude.{◌≡◌, ◌+◌, ◌*◌, ◌/◌, ◌%◌, ◌-◌, ◌^◌, ◌<◌, ◌≤◌, ◌↔◌, ◌∷◌, [], ◌++◌, List, ℕ, length, replicate, IsTrue, IsErr, OnOk, OnErr};
 ghost use Rattle.byteorder.specs.Endian.{big_bytes};
+ghost use Rattle.dccp_packets.specs.declared.header.Header.{Header};
+ghost use Rattle.dccp_packets.specs.Beginning.{Begins};
 ghost use Rattle.dccp_packets.specs.Grammar.{is_valid, HeaderFits, decoded, header_length, type_byte, number_bytes, long_ack_bytes, ack_bytes, kind_bytes, common_bytes, header_bytes, padded, spelling};
 
-use crate::fields::{NIBBLE, WORD, X};
+use crate::fields::{
+    CHECKSUM, COVERAGE, DATA_OFFSET, DESTINATION_PORT, NIBBLE, SOURCE_PORT, TYPE, WORD, X,
+};
 use crate::header::detail_has_three;
 use crate::{Frame, Header, Kind, Number};
 use byteorder::{BigEndian, ByteOrder};
-use seq_circle::{Seq24, Seq48};
+use seq_circle::Seq48;
 
 /// The fixed part and the padded options pass 1,020 bytes, the most that a Data Offset of 8 bits can count (RFC 4340,
 /// section 5.1).
@@ -54,6 +58,46 @@ pub fn encode(
     Ok(())
 }
 
+/// Begins a packet in place of what `out` had: its header, whose Data Offset is still zero. `Frame::append` then writes
+/// its options, and `finish` the rest. The header must be valid (`Header::valid`), and its reserved bits are zero (RFC
+/// 4340, section 5).
+pub fn begin(header: &Header, out: &mut Frame)
+    requires { IsTrue (is_valid header.now) }
+    ensures begun { Begins header.now [] out.new }
+    ensures least { 12 ≤ length out.new }
+    ensures most { length out.new ≤ 28 }
+{
+    header.known_to_fit();
+    out.clear();
+    put_header(header, 0, out);
+}
+
+/// Finishes a packet that has its header and its options, at most 1,020 bytes: zeros up to a multiple of four bytes, the
+/// Data Offset, and the data, at most 1,024 bytes. It then has the bytes that `encode` writes (RFC 4340, section 5.1).
+pub fn finish(payload: &[u8], out: &mut Frame)
+    requires begun { 12 ≤ length out.old }
+    requires fits { length out.old ≤ 1020 }
+    requires short { length payload.now ≤ 1024 }
+    ensures written { (header : Header) (options : List ℕ) → Begins header options out.old → out.new ≡ spelling header options payload.now }
+    ensures least { 12 ≤ length out.new }
+{
+    fill(out);
+    let words = (out.bytes().len() / WORD) as u8;
+    out.set(DATA_OFFSET, words);
+    out.append(payload);
+}
+
+// Appends the zeros that fill a packet's header and options up to a word.
+fn fill(out: &mut Frame)
+    requires { length out.old ≤ 1020 }
+    ensures filled { out.new ≡ padded out.old }
+    ensures fits { length out.new ≤ 1020 }
+    ensures more { length out.old ≤ length out.new }
+{
+    let zeros = padding(out.bytes());
+    out.append(&[0; WORD][..zeros]);
+}
+
 // How many zeros fill the options up to a word.
 fn padding(options: &[u8]) -> usize
     ensures value { result ≡ (4 - length options.now % 4) % 4 }
@@ -70,15 +114,6 @@ fn put_padded(options: &[u8], out: &mut Frame)
     out.append(&[0; WORD][..padding(options)]);
 }
 
-fn put_u16(value: u16, out: &mut Frame)
-    requires { length out.old + 2 ≤ 2044 }
-    ensures { out.new ≡ out.old ++ big_bytes 2 value }
-{
-    let mut piece = [0; 2];
-    BigEndian::write_u16(&mut piece, value);
-    out.append(&piece);
-}
-
 fn put_u32(value: u32, out: &mut Frame)
     requires { length out.old + 4 ≤ 2044 }
     ensures { out.new ≡ out.old ++ big_bytes 4 value }
@@ -88,34 +123,21 @@ fn put_u32(value: u32, out: &mut Frame)
     out.append(&piece);
 }
 
-fn put_long(number: Seq48, out: &mut Frame)
-    requires { length out.old + 6 ≤ 2044 }
-    ensures { out.new ≡ out.old ++ big_bytes 6 number }
-{
-    let mut piece = [0; 6];
-    BigEndian::write_u48(&mut piece, number.get());
-    out.append(&piece);
-}
-
-fn put_short(number: Seq24, out: &mut Frame)
-    requires { length out.old + 3 ≤ 2044 }
-    ensures { out.new ≡ out.old ++ big_bytes 3 number }
-{
-    let mut piece = [0; 3];
-    BigEndian::write_u24(&mut piece, number.get());
-    out.append(&piece);
-}
-
 fn put_number(number: &Number, out: &mut Frame)
     requires { length out.old + 7 ≤ 2044 }
     ensures { out.new ≡ out.old ++ number_bytes number.now }
 {
     match *number {
         Number::Long(number) => {
-            out.append(&[RESERVED]);
-            put_long(number, out);
+            let mut piece = [RESERVED; 7];
+            BigEndian::write_u48(&mut piece[1..], number.get());
+            out.append(&piece);
         }
-        Number::Short(number) => put_short(number, out),
+        Number::Short(number) => {
+            let mut piece = [0; 3];
+            BigEndian::write_u24(&mut piece, number.get());
+            out.append(&piece);
+        }
     }
 }
 
@@ -123,8 +145,9 @@ fn put_long_ack(ack: Seq48, out: &mut Frame)
     requires { length out.old + 8 ≤ 2044 }
     ensures { out.new ≡ out.old ++ long_ack_bytes ack }
 {
-    out.append(&[RESERVED, RESERVED]);
-    put_long(ack, out);
+    let mut piece = [RESERVED; 8];
+    BigEndian::write_u48(&mut piece[2..], ack.get());
+    out.append(&piece);
 }
 
 fn put_ack(ack: &Number, out: &mut Frame)
@@ -134,8 +157,9 @@ fn put_ack(ack: &Number, out: &mut Frame)
     match *ack {
         Number::Long(ack) => put_long_ack(ack, out),
         Number::Short(ack) => {
-            out.append(&[RESERVED]);
-            put_short(ack, out);
+            let mut piece = [RESERVED; 4];
+            BigEndian::write_u24(&mut piece[1..], ack.get());
+            out.append(&piece);
         }
     }
 }
@@ -163,6 +187,21 @@ fn put_kind(kind: &Kind, out: &mut Frame)
     }
 }
 
+// The nine bytes before the sequence number.
+fn common_bytes(header: &Header, words: u8) -> [u8; 9]
+    requires { IsTrue (is_valid header.now) }
+    ensures { result ≡ common_bytes header.now words }
+{
+    let mut bytes = [0; 9];
+    BigEndian::write_u16(&mut bytes[SOURCE_PORT..], header.from);
+    BigEndian::write_u16(&mut bytes[DESTINATION_PORT..], header.to);
+    bytes[DATA_OFFSET] = words;
+    bytes[COVERAGE] = header.ccval * NIBBLE + header.cscov;
+    BigEndian::write_u16(&mut bytes[CHECKSUM..], header.checksum);
+    bytes[TYPE] = type_byte(header);
+    bytes
+}
+
 fn put_header(header: &Header, words: u8, out: &mut Frame)
     requires valid { IsTrue (is_valid header.now) }
     requires fits { HeaderFits header.now }
@@ -170,11 +209,7 @@ fn put_header(header: &Header, words: u8, out: &mut Frame)
     ensures value { out.new ≡ header_bytes header.now words }
     ensures long { length out.new ≡ header_length header.now }
 {
-    put_u16(header.from, out);
-    put_u16(header.to, out);
-    out.append(&[words, header.ccval * NIBBLE + header.cscov]);
-    put_u16(header.checksum, out);
-    out.append(&[type_byte(header)]);
+    out.append(&common_bytes(header, words));
     put_number(&header.number, out);
     put_kind(&header.kind, out);
 }

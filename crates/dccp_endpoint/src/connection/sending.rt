@@ -10,12 +10,14 @@ ghost use Rattle.dccp_endpoint.specs.Speaking.{has_confirms};
 
 use super::classes::is_open;
 use super::{Connection, fit};
-use crate::outgoing::{put_alone, put_frame};
-use crate::speaking::{DueConfirm, asking, open_offers, put_changes, put_confirms, send_all};
+use crate::outgoing::{begin_frame, end_frame, numbers, put_alone, put_frame};
+use crate::speaking::{
+    DueConfirm, asking, open_offers, put_changes, put_confirms, put_option, send_all,
+};
 use ack_vectors::{VectorBytes, VectorOption, Vectors};
+use dccp_options::MOST_OPTION_BYTES;
 use dccp_options::kinds::ACK_VECTOR_0;
-use dccp_options::{MOST_OPTION_BYTES, OptWriter};
-use dccp_packets::{Kind, Number, Outbox};
+use dccp_packets::{Frame, Kind, Number, Outbox};
 use feature_lists::{Feature, Place};
 use feature_machine::{Held, Stand};
 use seq_circle::Seq48;
@@ -30,40 +32,30 @@ fn is_settled_on_one(held: &Held) -> bool
     matches!(held.stand, Stand::Stable) && held.value == 1
 }
 
-// Writes one option of an Ack Vector.
-fn put_option(area: &mut OptWriter, part: &[u8])
-    requires fits { length part.now ≤ 253 }
-    requires room { length area.old + 255 ≤ 1008 }
-    ensures bytes { area.new ≡ area.old ++ spelled false 38 part.now }
-    ensures long { length area.new ≡ length area.old + (2 + length part.now) }
-{
-    let _ = area.put(false, ACK_VECTOR_0, part);
-}
-
-// Writes a full option, and a second with what is left.
-fn put_two(area: &mut OptWriter, bytes: &[u8])
+// Writes a full option of an Ack Vector, and a second with what is left.
+fn put_two(frame: &mut Frame, bytes: &[u8])
     requires long { 253 < length bytes.now }
     requires fits { length bytes.now ≤ 506 }
-    requires room { length area.old + 510 ≤ 1008 }
-    ensures bytes { area.new ≡ area.old ++ (spelled false 38 (take 253 bytes.now) ++ spelled false 38 (drop 253 bytes.now)) }
-    ensures short { length area.new ≤ length area.old + 510 }
+    requires room { length frame.old + 512 ≤ 2044 }
+    ensures bytes { frame.new ≡ frame.old ++ (spelled false 38 (take 253 bytes.now) ++ spelled false 38 (drop 253 bytes.now)) }
+    ensures short { length frame.new ≤ length frame.old + 510 }
 {
     let (first, second) = bytes.split_at(MOST_OPTION_BYTES);
-    put_option(area, first);
-    put_option(area, second);
+    put_option(frame, false, ACK_VECTOR_0, first);
+    put_option(frame, false, ACK_VECTOR_0, second);
 }
 
 // Writes the options of an Ack Vector with these bytes: one if it has room for them, otherwise a full one and a second.
-fn put_options(area: &mut OptWriter, bytes: &[u8])
+fn put_options(frame: &mut Frame, bytes: &[u8])
     requires fits { length bytes.now ≤ 506 }
-    requires room { length area.old + 510 ≤ 1008 }
-    ensures bytes { area.new ≡ area.old ++ written (map vector_item (option_data bytes.now)) }
-    ensures short { length area.new ≤ length area.old + 510 }
+    requires room { length frame.old + 512 ≤ 2044 }
+    ensures bytes { frame.new ≡ frame.old ++ written (map vector_item (option_data bytes.now)) }
+    ensures short { length frame.new ≤ length frame.old + 510 }
 {
     if bytes.len() <= MOST_OPTION_BYTES {
-        put_option(area, bytes);
+        put_option(frame, false, ACK_VECTOR_0, bytes);
     } else {
-        put_two(area, bytes);
+        put_two(frame, bytes);
     }
 }
 
@@ -75,8 +67,8 @@ impl Connection {
     ghost use Rattle.run_list.specs.MarkedSet.{has};
     ghost use Rattle.dccp_endpoint.specs.Reporting.{acknowledged, recorded_by, reporting, sends_vectors, vector_items};
     ghost use Rattle.dccp_packets.specs.Forms.{may_be_short};
-    ghost use Rattle.dccp_packets.specs.Grammar.{fixed_length, has_forms, packet_type, padded};
-    ghost use Rattle.dccp_endpoint.specs.Drafts.{alone, carrying, framed, sent_as};
+    ghost use Rattle.dccp_packets.specs.Grammar.{has_forms, packet_type};
+    ghost use Rattle.dccp_endpoint.specs.Drafts.{alone, carrying};
     ghost use Rattle.dccp_endpoint.specs.ShortForm.{allows_short};
     ghost use Rattle.dccp_endpoint.specs.Calling.{sends_data};
     ghost use Rattle.dccp_packets.specs.declared.header.Kind.TheVariants as kind;
@@ -94,34 +86,6 @@ impl Connection {
         put_alone(&self.config, number, kind, out);
     }
 
-    // Sends a packet under the next number, with short numbers or with long ones.
-    fn send_with(
-        &mut self,
-        kind: Kind,
-        short: bool,
-        options: &OptWriter,
-        payload: &[u8],
-        out: &mut Outbox,
-    )
-        requires form { has_forms true kind ≡ true }
-        requires may { short ≡ true → may_be_short (packet_type kind) ≡ true }
-        requires area { fixed_length true (packet_type kind) + length (padded options.now) ≤ 1020 }
-        requires short { length payload.now ≤ 1024 }
-        ensures counted { self.new ≡ with_next_number self.old }
-        ensures sent { out.new ≡ Some (sent_as (next_number self.old) kind (framed self.old.config short (next_number self.old) kind options.now payload.now)) }
-    {
-        let number = self.take_number();
-        put_frame(
-            &self.config,
-            number,
-            short,
-            kind,
-            options.bytes(),
-            payload,
-            out,
-        );
-    }
-
     // Sends a packet with only Confirms under the next number.
     pub(crate) fn send_confirming(&mut self, kind: Kind, confirms: &[DueConfirm], out: &mut Outbox)
         requires form { may_be_short (packet_type kind) ≡ false }
@@ -132,9 +96,11 @@ impl Connection {
         if confirms.is_empty() {
             return self.send(kind, out);
         }
-        let mut area = OptWriter::new();
-        put_confirms(&mut area, confirms);
-        self.send_with(kind, false, &area, &[], out);
+        let number = self.take_number();
+        let frame = out.begin(numbers(number, &kind));
+        begin_frame(&self.config, number, false, &kind, frame);
+        put_confirms(frame, confirms);
+        end_frame(&self.config, &[], frame);
     }
 
     // Sends a packet that says all that is due: the Confirms, and the Changes of these rows, which are in CHANGING.
@@ -155,10 +121,12 @@ impl Connection {
         if confirms.is_empty() && keys.is_empty() {
             return self.send(kind, out);
         }
-        let mut area = OptWriter::new();
-        put_confirms(&mut area, confirms);
-        put_changes(&mut area, &self.rows, keys);
-        self.send_with(kind, false, &area, &[], out);
+        let number = self.take_number();
+        let frame = out.begin(numbers(number, &kind));
+        begin_frame(&self.config, number, false, &kind, frame);
+        put_confirms(frame, confirms);
+        put_changes(frame, &self.rows, keys);
+        end_frame(&self.config, &[], frame);
     }
 
     // The end may send short numbers: in OPEN, where the feature is settled here, with windows that are not too wide.
@@ -186,32 +154,50 @@ impl Connection {
         self.rows.held(Feature::SendAckVector, Place::Here).value == 1
     }
 
-    // Writes the Ack Vector of the greatest number received into its options; true if they hold all of it.
-    fn put_vector(&self, area: &mut OptWriter) -> bool
-        requires room { length area.old + 510 ≤ 1008 }
-        ensures bytes { area.new ≡ area.old ++ written (vector_items true self.now.config.vectors self.now.received.set self.now.marks.gsr) }
-        ensures short { length area.new ≤ length area.old + 510 }
+    // Writes the Ack Vector of the greatest number received as one option; true if it holds all of it.
+    fn put_one_vector(&self, frame: &mut Frame) -> bool
+        requires one { self.now.config.vectors ≡ One }
+        requires room { length frame.old + 510 ≤ 2044 }
+        ensures bytes { frame.new ≡ frame.old ++ written (vector_items true self.now.config.vectors self.now.received.set self.now.marks.gsr) }
+        ensures short { length frame.new ≤ length frame.old + 510 }
+        ensures whole { result ≡ is_whole_under (has self.now.received.set.numbers) self.now.received.set.floor self.now.marks.gsr self.now.config.vectors }
+    {
+        let mut option = VectorOption::new();
+        let whole = self.received.write_option(&mut option, self.marks.gsr);
+        frame.append(option.as_slice());
+        whole
+    }
+
+    // Writes it into as many options as it takes up; true if they hold all of it.
+    fn put_vector(&self, frame: &mut Frame) -> bool
+        requires room { length frame.old + 512 ≤ 2044 }
+        ensures bytes { frame.new ≡ frame.old ++ written (vector_items true self.now.config.vectors self.now.received.set self.now.marks.gsr) }
+        ensures short { length frame.new ≤ length frame.old + 510 }
         ensures whole { result ≡ is_whole_under (has self.now.received.set.numbers) self.now.received.set.floor self.now.marks.gsr self.now.config.vectors }
     {
         let mut bytes = VectorBytes::new();
         let whole = self
             .received
             .write(&mut bytes, self.marks.gsr, self.config.vectors);
-        put_options(area, bytes.as_slice());
+        put_options(frame, bytes.as_slice());
         whole
     }
 
     // Writes the Ack Vector if one goes out, and then returns whether it is whole.
-    fn report(&self, area: &mut OptWriter) -> Option<bool>
-        requires room { length area.old + 510 ≤ 1008 }
-        ensures bytes { area.new ≡ area.old ++ written (vector_items (sends_vectors self.now.rows) self.now.config.vectors self.now.received.set self.now.marks.gsr) }
-        ensures short { length area.new ≤ length area.old + 510 }
+    fn report(&self, frame: &mut Frame) -> Option<bool>
+        requires room { length frame.old + 512 ≤ 2044 }
+        ensures bytes { frame.new ≡ frame.old ++ written (vector_items (sends_vectors self.now.rows) self.now.config.vectors self.now.received.set self.now.marks.gsr) }
+        ensures short { length frame.new ≤ length frame.old + 510 }
         ensures whole { result ≡ (if sends_vectors self.now.rows then Some (is_whole_under (has self.now.received.set.numbers) self.now.received.set.floor self.now.marks.gsr self.now.config.vectors) else None) }
     {
         if !self.sends_vectors() {
             return None;
         }
-        Some(self.put_vector(area))
+        // Room for one option is quickly cleared.
+        Some(match self.config.vectors {
+            Vectors::One => self.put_one_vector(frame),
+            Vectors::Two => self.put_vector(frame),
+        })
     }
 
     // An Ack or a DataAck went out: its Ack Vector, if it had one, is recorded, and nothing is owed.
@@ -239,27 +225,13 @@ impl Connection {
         ensures counted { self.new ≡ acknowledged self.old }
         ensures sent { out.new ≡ Some (next_frame self.old (reporting self.old (saying kind confirms.now self.old.rows []))) }
     {
-        if confirms.is_empty() {
-            self.send_reporting(kind, &[], out);
-        } else {
-            self.send_ack_with(kind, confirms, out);
-        }
-    }
-
-    // The same in an area that has room for Confirms.
-    #[inline(never)]
-    fn send_ack_with(&mut self, kind: Kind, confirms: &[DueConfirm], out: &mut Outbox)
-        requires form { has_forms true kind ≡ true }
-        requires may { may_be_short (packet_type kind) ≡ true }
-        requires room { HaveRoom confirms.now }
-        ensures counted { self.new ≡ acknowledged self.old }
-        ensures sent { out.new ≡ Some (next_frame self.old (reporting self.old (saying kind confirms.now self.old.rows []))) }
-    {
         let short = self.goes_short(confirms, &[]);
-        let mut area = OptWriter::new();
-        let whole = self.report(&mut area);
-        put_confirms(&mut area, confirms);
-        self.send_with(kind, short, &area, &[], out);
+        let number = self.take_number();
+        let frame = out.begin(numbers(number, &kind));
+        begin_frame(&self.config, number, short, &kind, frame);
+        let whole = self.report(frame);
+        put_confirms(frame, confirms);
+        end_frame(&self.config, &[], frame);
         self.record(whole);
     }
 
@@ -278,69 +250,16 @@ impl Connection {
         ensures sent { out.new ≡ Some (next_frame self.old (reporting self.old (saying kind [] self.old.rows keys.now))) }
     {
         let short = self.goes_short(&[], keys);
-        let mut area = OptWriter::new();
-        let whole = self.report(&mut area);
-        put_changes(&mut area, &self.rows, keys);
-        self.send_with(kind, short, &area, &[], out);
-        self.record(whole);
-    }
-
-    // Writes the Ack Vector as the one option of a packet, if one goes out, and then returns whether it is whole.
-    fn report_alone(&self, option: &mut VectorOption) -> Option<bool>
-        requires empty { option.old.items ≡ [] }
-        requires one { self.now.config.vectors ≡ One }
-        ensures bytes { option.new.items ≡ written (vector_items (sends_vectors self.now.rows) self.now.config.vectors self.now.received.set self.now.marks.gsr) }
-        ensures whole { result ≡ (if sends_vectors self.now.rows then Some (is_whole_under (has self.now.received.set.numbers) self.now.received.set.floor self.now.marks.gsr self.now.config.vectors) else None) }
-    {
-        if !self.sends_vectors() {
-            return None;
-        }
-        Some(self.received.write_option(option, self.marks.gsr))
-    }
-
-    // Sends an Ack or a DataAck with only its Ack Vector, for which one option has room.
-    #[inline(never)]
-    fn send_one_vector(&mut self, kind: Kind, payload: &[u8], out: &mut Outbox)
-        requires one { self.old.config.vectors ≡ One }
-        requires form { has_forms true kind ≡ true }
-        requires may { may_be_short (packet_type kind) ≡ true }
-        requires short { length payload.now ≤ 1024 }
-        ensures counted { self.new ≡ acknowledged self.old }
-        ensures sent { out.new ≡ Some (next_frame self.old (reporting self.old (carrying kind payload.now))) }
-    {
-        let short = self.allows_short();
-        let mut option = VectorOption::new();
-        let whole = self.report_alone(&mut option);
         let number = self.take_number();
-        put_frame(
-            &self.config,
-            number,
-            short,
-            kind,
-            option.as_slice(),
-            payload,
-            out,
-        );
+        let frame = out.begin(numbers(number, &kind));
+        begin_frame(&self.config, number, short, &kind, frame);
+        let whole = self.report(frame);
+        put_changes(frame, &self.rows, keys);
+        end_frame(&self.config, &[], frame);
         self.record(whole);
     }
 
-    // The same, however many options the Ack Vector takes up.
-    #[inline(never)]
-    fn send_vectors(&mut self, kind: Kind, payload: &[u8], out: &mut Outbox)
-        requires form { has_forms true kind ≡ true }
-        requires may { may_be_short (packet_type kind) ≡ true }
-        requires short { length payload.now ≤ 1024 }
-        ensures counted { self.new ≡ acknowledged self.old }
-        ensures sent { out.new ≡ Some (next_frame self.old (reporting self.old (carrying kind payload.now))) }
-    {
-        let short = self.allows_short();
-        let mut area = OptWriter::new();
-        let whole = self.report(&mut area);
-        self.send_with(kind, short, &area, payload, out);
-        self.record(whole);
-    }
-
-    // Sends an Ack or a DataAck that has no options except its Ack Vector. Room for one option is quickly cleared.
+    // Sends an Ack or a DataAck that has no options except its Ack Vector.
     fn send_reporting(&mut self, kind: Kind, payload: &[u8], out: &mut Outbox)
         requires form { has_forms true kind ≡ true }
         requires may { may_be_short (packet_type kind) ≡ true }
@@ -348,10 +267,13 @@ impl Connection {
         ensures counted { self.new ≡ acknowledged self.old }
         ensures sent { out.new ≡ Some (next_frame self.old (reporting self.old (carrying kind payload.now))) }
     {
-        match self.config.vectors {
-            Vectors::One => self.send_one_vector(kind, payload, out),
-            Vectors::Two => self.send_vectors(kind, payload, out),
-        }
+        let short = self.allows_short();
+        let number = self.take_number();
+        let frame = out.begin(numbers(number, &kind));
+        begin_frame(&self.config, number, short, &kind, frame);
+        let whole = self.report(frame);
+        end_frame(&self.config, payload, frame);
+        self.record(whole);
     }
 
     // Sends a DataAck, which has no options except its Ack Vector.
@@ -365,7 +287,7 @@ impl Connection {
     }
 
     // Sends a Data, which has no options.
-    #[tactic(auto, using(crate::proofs::Frames::fixed_part_is_short, crate::proofs::Short::short_data))]
+    #[tactic(auto, using(crate::proofs::Short::short_data))]
     fn send_plain_data(&mut self, payload: &[u8], out: &mut Outbox)
         requires { length payload.now ≤ 1024 }
         ensures counted { self.new ≡ with_next_number self.old }
@@ -373,7 +295,7 @@ impl Connection {
     {
         let short = self.allows_short();
         let number = self.take_number();
-        put_frame(&self.config, number, short, Kind::Data, &[], payload, out);
+        put_frame(&self.config, number, short, Kind::Data, payload, out);
     }
 
     /// Sends data, and returns the number of their packet: a DataAck if an acknowledgement is owed, else a Data.

@@ -1,29 +1,42 @@
-use Rattle.std.proofs.Common.{◌∙◌, ◌++◌, ℕ, Bool, false, List, [], Some, ap, arith, length, sym, true}
-use Rattle.dccp_options.specs.Written.{written}
-use Rattle.dccp_packets.specs.Grammar.{packet_type}
-use Rattle.dccp_endpoint.specs.Drafts.{Draft, framed, sent_as, sent_of}
+use Rattle.std.proofs.Common.{◌≡◌, ◌∙◌, ◌++◌, ℕ, Bool, false, List, [], Some, ap, subst, sym}
+use Rattle.dccp_options.specs.Written.{Item, written}
+use Rattle.dccp_packets.specs.Beginning.{Begins}
+use Rattle.dccp_packets.specs.Outgoing.{outgoing}
+use Rattle.dccp_packets.specs.declared.frame.Numbers.{Numbers}
+use Rattle.dccp_packets.specs.declared.header.Header.{Header}
+use Rattle.dccp_endpoint.specs.Drafts.{Draft, framed, own_header, sent_as, sent_of}
 use Rattle.dccp_endpoint.specs.End.{EndState}
 use Rattle.dccp_endpoint.specs.Speaking.{change_items, confirm_items, saying}
 use Rattle.dccp_endpoint.specs.Steps.{next_number}
-use Rattle.dccp_endpoint.proofs.Frames.{fit_beside}
 use Rattle.dccp_endpoint.proofs.Short.{stays_long}
-use Rattle.dccp_endpoint.proofs.Writing.{written_both}
+use Rattle.dccp_endpoint.proofs.Writing.{begins_on, written_both}
 use Rattle.dccp_endpoint.proofs.connection.Connection.send_saying.Goals as goal
-
--- the options fit into the header
-pub send_with-requires-clause-area : goal.send_with-requires-clause-area
-send_with-requires-clause-area c = fit_beside true (packet_type c.args.kind) c.put_changes.new.area (omega (arith, c.put_changes.ensures.short, c.put_confirms.ensures.long, ap length c.new-area.ensures, c.requires.room, c.requires.rows))
 
 pub returns-clause-sent : goal.returns-clause-sent
 returns-clause-sent c =
     let e : EndState = c.args.self.now in
-    let draft : Draft = saying c.args.kind c.args.confirms.now e.rows c.args.keys.now in
-    let said : List ℕ = written (confirm_items c.args.confirms.now) in
-    c.send_with.ensures.sent
-    ∙ ap (λ (options : List ℕ). Some (sent_as (next_number e) draft.kind (framed e.config false (next_number e) draft.kind options [])))
-    (c.put_changes.ensures.bytes
-    ∙ ap (λ (x : EndState). c.put_confirms.new.area ++ written (change_items x.rows c.args.keys.now)) c.self.view_is
-    ∙ ap (λ (front : List ℕ). front ++ written (change_items e.rows c.args.keys.now))
-    (c.put_confirms.ensures.bytes ∙ ap (λ (front : List ℕ). front ++ said) c.new-area.ensures)
-    ∙ written_both (confirm_items c.args.confirms.now) (change_items e.rows c.args.keys.now))
+    let k = c.args.kind in
+    let draft : Draft = saying k c.args.confirms.now e.rows c.args.keys.now in
+    let said : List Item = confirm_items c.args.confirms.now in
+    let changes : List Item = change_items e.rows c.args.keys.now in
+    let number : ℕ = c.take_number-number.result in
+    let area : List ℕ = written (said ++ changes) in
+    let header : Header = own_header e.config false number k in
+    let same = c.self.view_is ∙ c.take_number-number.ensures.counted in
+    let begun : Begins header [] c.begin_frame.new.frame =
+    subst (λ (x : EndState). Begins (own_header x.config false number k) [] c.begin_frame.new.frame) same c.begin_frame.ensures.begun in
+    let asked : c.put_changes.new.frame ≡ c.put_confirms.new.frame ++ written changes =
+    c.put_changes.ensures.bytes ∙ ap (λ (x : EndState). c.put_confirms.new.frame ++ written (change_items x.rows c.args.keys.now)) same in
+    let one : Begins header ([] ++ written said) c.put_confirms.new.frame =
+    begins_on header [] (written said) c.begin_frame.new.frame c.put_confirms.new.frame begun c.put_confirms.ensures.bytes in
+    let both : Begins header ([] ++ written said ++ written changes) c.put_changes.new.frame =
+    begins_on header ([] ++ written said) (written changes) c.put_confirms.new.frame c.put_changes.new.frame one asked in
+    let begins : Begins header area c.put_changes.new.frame =
+    subst (λ (all : List ℕ). Begins header all c.put_changes.new.frame) (written_both said changes) both in
+    let ended : c.end_frame.new.frame ≡ framed e.config false number k area [] =
+    subst (λ (x : EndState). Begins (own_header x.config false number k) area c.put_changes.new.frame → c.end_frame.new.frame ≡ framed x.config false number k area [])
+    same (c.end_frame.ensures false number k area) begins in
+    ap (λ (numbers : Numbers). Some (outgoing numbers c.end_frame.new.frame)) c.numbers.ensures
+    ∙ ap (λ (bytes : List ℕ). Some (sent_as number k bytes)) ended
+    ∙ ap (λ (n : ℕ). Some (sent_as n k (framed e.config false n k area []))) c.take_number-number.ensures.number
     ∙ ap (λ (short : Bool). Some (sent_of e.config short (next_number e) draft)) (sym (stays_long e draft c.requires.form))

@@ -1,0 +1,48 @@
+use Rattle.std.proofs.Common.{◌≡◌, ◌∙◌, ◌++◌, ℕ, Bool, List, [], Some, ap, subst, sym}
+use Rattle.dccp_options.specs.Written.{Item, written}
+use Rattle.dccp_packets.specs.Beginning.{Begins}
+use Rattle.dccp_packets.specs.Outgoing.{outgoing}
+use Rattle.dccp_packets.specs.declared.frame.Numbers.{Numbers}
+use Rattle.dccp_packets.specs.declared.header.Header.{Header}
+use Rattle.dccp_endpoint.specs.Drafts.{framed, own_header, sent_as}
+use Rattle.dccp_endpoint.specs.End.{EndState}
+use Rattle.dccp_endpoint.specs.Heeding.{DueConfirm}
+use Rattle.dccp_endpoint.specs.Reporting.{sends_vectors, vector_items}
+use Rattle.dccp_endpoint.specs.Speaking.{confirm_items}
+use Rattle.dccp_endpoint.specs.Steps.{next_number}
+use Rattle.dccp_endpoint.proofs.Short.{short_ack}
+use Rattle.dccp_endpoint.proofs.Writing.{begins_on, written_confirms}
+use Rattle.dccp_endpoint.proofs.connection.Connection.send_ack_confirming.Goals as goal
+
+pub returns-clause-sent : goal.returns-clause-sent
+returns-clause-sent c =
+    let e : EndState = c.args.self.now in
+    let k = c.args.kind in
+    let vector : List Item = vector_items (sends_vectors e.rows) e.config.vectors e.received.set e.marks.gsr in
+    let confirms : List DueConfirm = c.args.confirms.now in
+    let said : List Item = confirm_items confirms in
+    let number : ℕ = c.take_number-number.result in
+    let short : Bool = c.goes_short-short.result in
+    let area : List ℕ = written (vector ++ (said ++ [])) in
+    let header : Header = own_header e.config short number k in
+    let same = c.self.view_is ∙ c.take_number-number.ensures.counted in
+    let begun : Begins header [] c.begin_frame.new.frame =
+    subst (λ (x : EndState). Begins (own_header x.config short number k) [] c.begin_frame.new.frame) same c.begin_frame.ensures.begun in
+    let reported : c.report-whole.new.frame ≡ c.begin_frame.new.frame ++ written vector =
+    c.report-whole.ensures.bytes
+    ∙ ap (λ (x : EndState). c.begin_frame.new.frame ++ written (vector_items (sends_vectors x.rows) x.config.vectors x.received.set x.marks.gsr))
+    c.take_number-number.ensures.counted in
+    let one : Begins header ([] ++ written vector) c.report-whole.new.frame =
+    begins_on header [] (written vector) c.begin_frame.new.frame c.report-whole.new.frame begun reported in
+    let both : Begins header ([] ++ written vector ++ written said) c.put_confirms.new.frame =
+    begins_on header ([] ++ written vector) (written said) c.report-whole.new.frame c.put_confirms.new.frame one c.put_confirms.ensures.bytes in
+    let begins : Begins header area c.put_confirms.new.frame =
+    subst (λ (all : List ℕ). Begins header all c.put_confirms.new.frame) (written_confirms vector said) both in
+    let ended : c.end_frame.new.frame ≡ framed e.config short number k area [] =
+    subst (λ (x : EndState). Begins (own_header x.config short number k) area c.put_confirms.new.frame → c.end_frame.new.frame ≡ framed x.config short number k area [])
+    same (c.end_frame.ensures short number k area) begins in
+    ap (λ (numbers : Numbers). Some (outgoing numbers c.end_frame.new.frame)) c.numbers.ensures
+    ∙ ap (λ (bytes : List ℕ). Some (sent_as number k bytes)) ended
+    ∙ ap (λ (n : ℕ). Some (sent_as n k (framed e.config short n k area []))) c.take_number-number.ensures.number
+    ∙ ap (λ (form : Bool). Some (sent_as (next_number e) k (framed e.config form (next_number e) k area [])))
+    (c.goes_short-short.ensures ∙ sym (short_ack e k confirms e.rows [] c.requires.may))
