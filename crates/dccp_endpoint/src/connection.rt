@@ -85,6 +85,7 @@ impl Connection {
     ghost use Rattle.feature_machine.specs.Negotiating.{AreRowsOf};
 
     /// An end of this configuration: CLOSED for a client, LISTEN for a server (RFC 4340, section 8.1).
+    #[inline(always)]
     pub(crate) fn new(alloc: Global, config: Config) -> Result<Connection, NoMemory>
         ensures { IfOk result (λ e. e ≡ new_end config) }
     {
