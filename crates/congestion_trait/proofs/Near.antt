@@ -1,5 +1,5 @@
 -- Numbers with at most this many steps between them, and how a report's end below one of them covers all before it.
-use Rattle.std.proofs.Common.{◌≡◌, ℕ, ◌+◌, ◌-◌, ◌^◌, ◌≤◌, ◌<◌, ◌⊎◌, Bool, true, false, not, ◌&&◌, ◌||◌, cond, List, [], ◌∷◌, ◌++◌, map, Option, Some, None, IsNone, IfNone, length, take, drop, slice_get, refl, sym, ap, ◌∙◌, subst, inl, inr, arith}
+use Rattle.std.proofs.Common.{◌≡◌, ℕ, ◌+◌, ◌-◌, ◌^◌, ◌≤◌, ◌<◌, Bool, true, false, not, ◌&&◌, ◌||◌, cond, List, [], ◌∷◌, ◌++◌, map, Option, Some, None, IsNone, IfNone, length, take, drop, slice_get, refl, sym, ap, ◌∙◌, subst, arith}
 use Rattle.std.specs.List.{list_all, AllByRecursion}
 use Rattle.std.proofs.lemmas.List.{take-append-drop, drop-map}
 use Rattle.std.proofs.lemmas.List.Sums.{sum_by-cons, sum_by-append}
@@ -71,15 +71,14 @@ far : (ack x y span : ℕ) → x < 2 ^ 48 → y < 2 ^ 48 → distance y x ≤ sp
 far ack x y span first second close room = omega arith
 
 -- a report that gives x's number no state gives none to a number at most this many steps before it
-ends_at : (ack : ℕ) (bytes : List ℕ) (span x : ℕ) → x < 2 ^ 48 → (bytes ≡ []) ⊎ (distance x ack + span < 2 ^ 48)
+ends_at : (ack : ℕ) (bytes : List ℕ) (span x : ℕ) → x < 2 ^ 48 → distance x ack + span < 2 ^ 48
     → ((place : ℕ) → distance x ack ≤ place → slice_get (states bytes) place ≡ None)
     → (number : ℕ) → number < 2 ^ 48 → distance number x ≤ span → state_at ack bytes number ≡ None
-ends_at ack bytes span x low (inl empty) none number fits close = rw empty refl
-ends_at ack bytes span x low (inr room) none number fits close = none (distance number ack) (far ack x number span low fits close room)
+ends_at ack bytes span x low room none number fits close = none (distance number ack) (far ack x number span low fits close room)
 
 pub untouched_below : (ack : ℕ) (bytes : List ℕ) (span i : ℕ) (old rest : List FlightEntry) (x : FlightEntry) → drop i old ≡ x ∷ rest
     → AreNear span (numbers old) → pipe_of (drop i old) ≡ pipe_of old
-    → (bytes ≡ []) ⊎ (distance x.number ack + span < 2 ^ 48)
+    → distance x.number ack + span < 2 ^ 48
     → ((place : ℕ) → distance x.number ack ≤ place → slice_get (states bytes) place ≡ None)
     → AllUntouched (state_at ack bytes) (take i old)
 untouched_below ack bytes span i old rest x cut near seen room none =

@@ -78,13 +78,3 @@ at_no_run bytes hi state is = record {
   following = λ place from. sym (run_state-runs_of bytes hi place) ∙ ap (λ runs. run_state runs place) is;
   over = λ said. refl;
 }
-
--- the first run is at the top
-pub first_at_the_top : (bytes : List ℕ) (hi : ℕ) (run : Run) (rest : List Run) → runs_of hi bytes ≡ run ∷ rest → run.hi ≡ hi
-first_at_the_top [] hi run rest is = cc
-first_at_the_top (byte ∷ others) hi run rest is = let first : record { hi = hi; count = run_length byte; state = state_of byte } ≡ run = cc in
-    sym (ap (λ (r : Run). r.hi) first)
-
-pub no_byte : (bytes : List ℕ) (hi : ℕ) → runs_of hi bytes ≡ [] → bytes ≡ []
-no_byte [] hi is = refl
-no_byte (byte ∷ others) hi is = cc

@@ -5,7 +5,7 @@ use Rattle.std.specs.Option.{option_to_list}
 use Rattle.circular_buffer.specs.Buffer.{keep_last}
 use Rattle.std.proofs.lemmas.Bool.Decides.{nat_tests}
 use Rattle.std.proofs.lemmas.Bool.{and_parts}
-use Rattle.std.proofs.lemmas.List.{drop_all, take_at, take-append-drop, length-take-le, take_more, take-append-le, length-append}
+use Rattle.std.proofs.lemmas.List.{take_at, take-append-drop, length-take-le, take_more, take-append-le, length-append}
 use Rattle.std.proofs.lemmas.List.Sums.{sum_by-cons}
 use Rattle.std.proofs.lemmas.Option.{get_or_from_slice_get, slice_get_within}
 use Rattle.congestion_trait.specs.declared.flight.FlightEntry.{FlightEntry}
@@ -118,19 +118,6 @@ module _ (told : States) (mark : Option ℕ) (entries : List FlightEntry) (settl
   front_stays within =
       ap (λ l. take settled l) (sym report_from)
       ∙ take_at (take settled entries) (after_report told (drop settled entries)) settled (length-take-le settled entries within)
-
--- if all entries are Reported, a report changes none and is no news
-pub all_settled : (told : States) (mark : Option ℕ) (entries : List FlightEntry) (settled : ℕ) → settled ≡ length entries
-    → AllReported (take settled entries)
-    → (after_report told entries ≡ entries) × (acked_count told entries ≡ 0) × (is_congested told mark entries ≡ false)
-all_settled told mark entries settled is front =
-    let none : drop settled entries ≡ [] = drop_all settled entries (omega arith) in
-    let same = untouched_from_reported told (take settled entries) front in (
-      sym (report_from told mark entries settled same) ∙ ap (λ l. take settled entries ++ after_report told l) none
-          ∙ ap (λ l. take settled entries ++ l) (sym none) ∙ take-append-drop settled entries,
-      sym (acked_from told mark entries settled same) ∙ ap (λ l. acked_count told l) none,
-      sym (congested_from told mark entries settled same) ∙ ap (λ l. is_congested told mark l) none,
-    )
 
 -- one more entry at the front is Reported
 all-push : (xs : List FlightEntry) (entry : FlightEntry) → AllReported xs → is_reported entry.standing ≡ true → AllReported (xs ++ entry ∷ [])

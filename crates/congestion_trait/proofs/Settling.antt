@@ -1,7 +1,7 @@
 -- What a report makes of a list, entry by entry.
-use Rattle.std.proofs.Common.{◌≡◌, ℕ, suc, ◌+◌, ◌<◌, ◌≤◌, Bool, true, false, not, ◌&&◌, ◌||◌, leb, cond, List, [], ◌∷◌, ◌++◌, map, Option, Some, length, take, drop, get_or, slice_get, slice_set, refl, sym, ap, ◌∙◌, append_assoc, length-drop, subst, arith}
+use Rattle.std.proofs.Common.{◌≡◌, ℕ, suc, ◌+◌, ◌<◌, ◌≤◌, Bool, true, false, not, ◌&&◌, ◌||◌, leb, cond, if◌then◌else◌, List, [], ◌∷◌, ◌++◌, map, Option, Some, length, take, drop, get_or, slice_get, slice_set, refl, sym, ap, ◌∙◌, append_assoc, length-drop, subst, arith}
 use Rattle.std.proofs.lemmas.List.Sums.{sum_by-cons, count_by-le-length}
-use Rattle.std.proofs.lemmas.List.{take_more, drop_more, get_or_append_left, get_or-take, length-take-le, set_at, length-map}
+use Rattle.std.proofs.lemmas.List.{take_more, drop_more, get_or_append_left, get_or-take, length-take-le, set-get_or, set_at, length-map}
 use Rattle.std.proofs.lemmas.Option.{get_or_from_slice_get}
 use Rattle.congestion_trait.specs.declared.flight.FlightEntry.{FlightEntry}
 use Rattle.congestion_trait.specs.declared.flight.Standing.{Standing}
@@ -152,6 +152,39 @@ turn told mark state old now n i x walk next standing one within along read same
       out = rw cut more.out;
       seen = rw cut more.seen;
     }
+
+stays_reported : (received passed : Bool) → Reported ≡ (if received then Reported else if false && passed then Lost else Reported)
+stays_reported true passed = refl
+stays_reported false passed = refl
+
+no_more_news : (past congested : Bool) → congested ≡ (past && (false || false) || congested)
+no_more_news true congested = refl
+no_more_news false congested = refl
+
+-- an entry that is Reported counts as such, whatever the report says of it
+reported_step : (state mark : Option ℕ) (number : ℕ) (standing : Standing) (walk : FlightWalk) → is_reported standing ≡ true
+    → IsStep state mark (record { number = number; standing = standing }) walk (record walk { reported = walk.reported + 1 }) standing
+reported_step state mark number Out walk is = cc
+reported_step state mark number Lost walk is = cc
+reported_step state mark number Reported walk is =
+    record {
+      stands = stays_reported (is_received state) (leb 3 walk.reported);
+      acked = omega arith;
+      congested = no_more_news (is_past mark number) walk.congested;
+      reported = refl;
+      out = omega arith;
+      seen = omega arith;
+    }
+
+-- one entry further, which is Reported: the list stays
+pub turn_reported : (told : States) (mark : Option ℕ) (old now : List FlightEntry) (n i : ℕ) (x : FlightEntry) (walk : FlightWalk)
+    → n ≡ i + 1 → n ≤ length old → IsAlong told mark old n now walk → slice_get now i ≡ Some x → is_reported x.standing ≡ true
+    → IsAlong told mark old i now (record walk { reported = walk.reported + 1 })
+turn_reported told mark old now n i x walk one within along read is =
+    let more : FlightWalk = record walk { reported = walk.reported + 1 } in
+    let step : IsStep (told x.number) mark x walk more x.standing = reported_step (told x.number) mark x.number x.standing walk is in
+    let same : slice_set now i x ≡ now = ap (λ e. slice_set now i e) (sym (get_or_from_slice_get now i x x read)) ∙ set-get_or now i x in
+    subst (λ l. IsAlong told mark old i l more) same (turn told mark (told x.number) old now n i x walk more x.standing one within along read refl step)
 
 pub length-with_losses : (entries : List FlightEntry) → length (with_losses entries) ≡ length entries
 length-with_losses [] = refl

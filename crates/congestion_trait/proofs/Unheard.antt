@@ -1,6 +1,5 @@
 -- A report leaves entries after what it reaches, which are all Out, as they are.
-use Rattle.std.proofs.Common.{◌≡◌, ℕ, zero, suc, ◌+◌, ◌-◌, ◌*◌, ◌^◌, ◌≤◌, ◌<◌, ◌⊎◌, Bool, true, false, not, ◌&&◌, ◌||◌, cond, nat_lt, if◌then◌else◌, List, [], ◌∷◌, ◌++◌, map, replicate, Option, Some, None, length, take, drop, slice_get, drop-drop, length-append, length-drop, refl, sym, ap, ◌∙◌, subst, inl, inr, arith}
-use Rattle.std.specs.Bool.{⊤}
+use Rattle.std.proofs.Common.{◌≡◌, ℕ, zero, suc, ◌+◌, ◌-◌, ◌*◌, ◌^◌, ◌≤◌, ◌<◌, Bool, true, false, not, ◌&&◌, ◌||◌, cond, nat_lt, if◌then◌else◌, List, [], ◌∷◌, ◌++◌, map, replicate, Option, Some, None, length, take, drop, slice_get, drop-drop, length-append, length-drop, refl, sym, ap, ◌∙◌, subst, arith}
 use Rattle.std.specs.List.{list_all, AllByRecursion}
 use Rattle.std.specs.Option.{option_to_list}
 use Rattle.circular_buffer.specs.Buffer.{keep_last}
@@ -16,7 +15,8 @@ use Rattle.congestion_trait.specs.declared.flight.Standing.{Standing}
 use Rattle.congestion_trait.specs.declared.flight.Standing.TheVariants.{Out, Reported, Lost}
 use Rattle.congestion_trait.specs.Flight.{States, pipe_of, reported_count, after_report, acked_count, is_congested, is_out, is_reported, is_past, entry_reported, lost_if, is_passed}
 use Rattle.seq_circle.proofs.Near.{all_low, near_drop}
-use Rattle.congestion_trait.specs.Walk.{AllOut, is_unheard, AllUnheard, numbers, IsAlong}
+use Rattle.congestion_trait.proofs.Settled.{untouched_from_reported, report_from, acked_from, congested_from}
+use Rattle.congestion_trait.specs.Walk.{AllReported, AllOut, is_unheard, AllUnheard, numbers, IsAlong}
 use Rattle.seq_circle.specs.Near.{AreNear}
 
 abbrev at : ℕ → Standing → FlightEntry
@@ -126,6 +126,26 @@ begins_from told mark old heard unheard all is =
       seen = count;
     }
 
+-- if the report says of none after a front of Reported entries that it was received, it changes none and is no news
+pub none_reached : (told : States) (mark : Option ℕ) (entries : List FlightEntry) (settled : ℕ) → AllReported (take settled entries)
+    → AllUnheard told (drop settled entries)
+    → (after_report told entries ≡ entries) × (acked_count told entries ≡ 0) × (is_congested told mark entries ≡ false)
+none_reached told mark entries settled front all =
+    let same = untouched_from_reported told (take settled entries) front in (
+      sym (report_from told mark entries settled same)
+          ∙ ap (λ l. take settled entries ++ l) (report_unheard told (drop settled entries) all)
+          ∙ take-append-drop settled entries,
+      sym (acked_from told mark entries settled same) ∙ acked_unheard told (drop settled entries) all,
+      sym (congested_from told mark entries settled same) ∙ congested_unheard told mark (drop settled entries) all,
+    )
+
+-- where none is left, the report says nothing of any
+pub none_unheard : (told : States) (n : ℕ) (entries : List FlightEntry) → slice_get entries n ≡ None → AllUnheard told (drop n entries)
+none_unheard told zero [] none = refl
+none_unheard told zero (entry ∷ later) none = cc
+none_unheard told (suc n) [] none = refl
+none_unheard told (suc n) (entry ∷ later) none = none_unheard told n later none
+
 drop-after_report : (told : States) (n : ℕ) (entries : List FlightEntry) → drop n (after_report told entries) ≡ after_report told (drop n entries)
 drop-after_report told zero entries = refl
 drop-after_report told (suc n) [] = refl
@@ -187,10 +207,6 @@ all_unheard told P none (entry ∷ later) out all =
     ap (λ b. b && list_all (λ e. is_unheard told e) later) (unheard_at told entry parts.0 (none entry.number all.0))
     ∙ all_unheard told P none later parts.1 all.1
 
-each : (P : ℕ → Type 0) → ((n : ℕ) → P n) → (xs : List ℕ) → AllByRecursion P xs
-each P holds [] = tt
-each P holds (x ∷ xs) = (holds x, each P holds xs)
-
 both : (P Q : ℕ → Type 0) (xs : List ℕ) → AllByRecursion P xs → AllByRecursion Q xs → AllByRecursion (λ x. P x × Q x) xs
 both P Q [] one other = tt
 both P Q (x ∷ xs) one other = ((one.0, other.0), both P Q xs one.1 other.1)
@@ -214,10 +230,8 @@ read_first (suc i) (y ∷ later) x read = read_first i later x read
 -- where an entry lies after all that the report reaches, so do those from it on
 pub unheard_after : (ack : ℕ) (bytes : List ℕ) (span i : ℕ) (old : List FlightEntry) (x : FlightEntry) → length bytes ≤ 1008 → slice_get old i ≡ Some x
     → AllOut (drop i old) → (span < 2 ^ 48 → AreNear span (numbers old))
-    → (bytes ≡ []) ⊎ (span + 64512 ≤ distance x.number ack) → AllUnheard (state_at ack bytes) (drop i old)
-unheard_after ack bytes span i old x few read out near (inl empty) =
-    all_unheard (state_at ack bytes) (λ n. ⊤) (λ n is. rw empty refl) (drop i old) out (each (λ n. ⊤) (λ n. tt) (numbers (drop i old)))
-unheard_after ack bytes span i old x few read out near (inr far) =
+    → span + 64512 ≤ distance x.number ack → AllUnheard (state_at ack bytes) (drop i old)
+unheard_after ack bytes span i old x few read out near far =
     let first = read_first i old x read in
     let small : span < 2 ^ 48 = omega (arith, far) in
     let dropped : drop i (numbers old) ≡ numbers (drop i old) = drop-map (λ (e : FlightEntry). e.number) i old in

@@ -3,7 +3,7 @@ use Rattle.std.specs.Prelude.{◌≡◌, ℕ, ◌-◌, ◌^◌, ◌<◌, ◌≤�
 use Rattle.std.specs.List.{list_all}
 use Rattle.seq_circle.specs.Near.{AreNear}
 use Rattle.dccp_options.specs.declared.report.Run.{Run}
-use Rattle.dccp_options.specs.Vectors.{VectorReport, is_received}
+use Rattle.dccp_options.specs.Vectors.{is_received}
 use Rattle.congestion_trait.specs.declared.flight.Standing.{Standing}
 use Rattle.congestion_trait.specs.declared.flight.Standing.TheVariants.{Reported, Lost}
 use Rattle.congestion_trait.specs.declared.flight.FlightEntry.{FlightEntry}
@@ -15,11 +15,6 @@ use Rattle.congestion_trait.specs.Flight.{States, is_out, is_reported, after_rep
 abbrev pub run_state : List Run → ℕ → Option ℕ
 run_state [] place = None
 run_state (run ∷ rest) place = if nat_lt place run.count then Some run.state else run_state rest (place - run.count)
-
--- a report begins at its acknowledgement number, unless it has no byte
-abbrev pub IsTop : VectorReport → Option ℕ → Type 0
-IsTop report None = report.bytes ≡ []
-IsTop report (Some top) = top ≡ report.ack
 
 -- one run covers the places from its start to its end, and these are left after it, of a list of states: none where the walk has ended
 pub record IsAt (states : List ℕ) (start end state : ℕ) (left : List Run) (ended : Bool) : Type 0 where

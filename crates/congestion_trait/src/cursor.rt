@@ -2,7 +2,7 @@
 ghost use Rattle.std.specs.Prelude.{◌≡◌, ℕ, ◌+◌, ◌^◌, ◌<◌, ◌≤◌, ◌⊎◌, List, [], None, IfNone, IsNone, IsTrue, length, slice_get};
 ghost use Rattle.seq_circle.specs.Circle.{distance};
 ghost use Rattle.dccp_options.specs.Vectors.{state_at, states};
-ghost use Rattle.congestion_trait.specs.Walk.{IsAt, IsTop};
+ghost use Rattle.congestion_trait.specs.Walk.{IsAt};
 
 use dccp_options::{AckReport, ReportRuns};
 use seq_circle::Seq48;
@@ -13,11 +13,9 @@ const CIRCLE: u64 = 1 << 48;
 // How many numbers a report reaches at most: 1,008 bytes of options with 64 each.
 const MOST_REACHED: u64 = 64_512;
 
-// One run of a report, and those after it. Places count down from the report's highest number, which is None if the
-// report has no run.
+// One run of a report, and those after it. Places count down from the report's acknowledgement number.
 #[derive(Drop)]
 pub struct Cursor<'a> {
-    top: Option<Seq48>,
     start: u64,
     end: u64,
     state: u8,
@@ -30,14 +28,12 @@ impl<'a> Cursor<'a> {
     // At a report's first run, or at none if it has none.
     pub fn new(report: &AckReport<'a>) -> Cursor<'a>
         ensures begins { result.start ≡ 0 }
-        ensures top { IsTop report.now result.top }
         ensures stands { IsAt (states report.now.bytes) result.start result.end result.state result.left result.ended }
         ensures few { length report.now.bytes ≤ 1008 }
     {
         let mut left = report.runs();
         match left.next() {
             Some(run) => Cursor {
-                top: Some(run.hi),
                 start: 0,
                 end: u64::from(run.count),
                 state: run.state,
@@ -45,7 +41,6 @@ impl<'a> Cursor<'a> {
                 ended: false,
             },
             None => Cursor {
-                top: None,
                 start: 0,
                 end: 0,
                 state: 0,
@@ -58,9 +53,7 @@ impl<'a> Cursor<'a> {
     // Starts again if the place was passed.
     fn stand_at_or_before(&mut self, report: &AckReport<'a>, place: u64)
         requires stands { IsAt (states report.now.bytes) self.old.start self.old.end self.old.state self.old.left self.old.ended }
-        requires top { IsTop report.now self.old.top }
         ensures before { self.new.start ≤ place }
-        ensures top { IsTop report.now self.new.top }
         ensures stands { IsAt (states report.now.bytes) self.new.start self.new.end self.new.state self.new.left self.new.ended }
     {
         if place < self.start {
@@ -74,7 +67,6 @@ impl<'a> Cursor<'a> {
         requires { self.old.end ≤ place }
         ensures before { self.new.end ≤ place }
         ensures none { self.new.start ≡ self.new.end }
-        ensures top { self.new.top ≡ self.old.top }
         ensures shorter { length self.new.left ≤ length self.old.left }
         ensures stands { (all : List ℕ) → IsAt all self.old.start self.old.end self.old.state self.old.left self.old.ended
             → IsAt all self.new.start self.new.end self.new.state self.new.left self.new.ended }
@@ -86,16 +78,11 @@ impl<'a> Cursor<'a> {
     // The state that the report gives a number. Runs are passed once while numbers fall.
     pub fn state(&mut self, report: &AckReport<'a>, number: Seq48) -> Option<u8>
         requires stands { IsAt (states report.now.bytes) self.old.start self.old.end self.old.state self.old.left self.old.ended }
-        requires top { IsTop report.now self.old.top }
         ensures value { result ≡ state_at report.now.ack report.now.bytes number }
         ensures none { IfNone result ((place : ℕ) → distance number report.now.ack ≤ place → slice_get (states report.now.bytes) place ≡ None) }
-        ensures top { IsTop report.now self.new.top }
         ensures stands { IsAt (states report.now.bytes) self.new.start self.new.end self.new.state self.new.left self.new.ended }
     {
-        let Some(top) = self.top else {
-            return None;
-        };
-        let place = number.distance(top);
+        let place = number.distance(report.ack());
         self.stand_at_or_before(report, place);
         while self.end <= place {
             if self.ended {
@@ -115,34 +102,19 @@ impl<'a> Cursor<'a> {
         }
         Some(self.state)
     }
+}
 
-    // Whether a report gives no state to this number, nor to any that lies at most `span` steps after it.
-    pub fn is_out_of_reach(&self, report: &AckReport<'a>, number: Seq48, span: u64) -> bool
-        requires top { IsTop report.now self.now.top }
-        ensures { IsTrue result → (report.now.bytes ≡ []) ⊎ (span + 64512 ≤ distance number report.now.ack) }
-    {
-        match self.top {
-            Some(top) => span.saturating_add(MOST_REACHED) <= number.distance(top),
-            None => true,
-        }
-    }
+// Whether a report gives no state to this number, nor to any that lies at most `span` steps after it.
+pub fn is_out_of_reach(report: &AckReport<'_>, number: Seq48, span: u64) -> bool
+    ensures value { IsTrue result → span + 64512 ≤ distance number report.now.ack }
+    ensures few { length report.now.bytes ≤ 1008 }
+{
+    span.saturating_add(MOST_REACHED) <= number.distance(report.ack())
+}
 
-    // Whether a report gives no state to this number, nor to any that lies at most `span` steps before it.
-    pub fn ends_before(
-        &self,
-        report: &AckReport<'a>,
-        state: Option<u8>,
-        number: Seq48,
-        span: u64,
-    ) -> bool
-        requires top { IsTop report.now self.now.top }
-        ensures { IsTrue result
-            → IsNone state × (span < 2 ^ 48) × ((report.now.bytes ≡ []) ⊎ (distance number report.now.ack + span < 2 ^ 48)) }
-    {
-        let near = match self.top {
-            Some(top) => span < CIRCLE - number.distance(top),
-            None => span < CIRCLE,
-        };
-        state.is_none() && near
-    }
+// Whether a report that gives no state to this number gives none to any that lies at most `span` steps before it.
+pub fn ends_before(report: &AckReport<'_>, state: Option<u8>, number: Seq48, span: u64) -> bool
+    ensures { IsTrue result → IsNone state × (distance number report.now.ack + span < 2 ^ 48) }
+{
+    state.is_none() && span < CIRCLE - number.distance(report.ack())
 }

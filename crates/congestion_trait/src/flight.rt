@@ -7,7 +7,7 @@ ghost use Rattle.congestion_trait.specs.Walk.{was_out, numbers};
 ghost use Rattle.seq_circle.specs.Near.{AreNear};
 ghost use Rattle.congestion_trait.specs.declared.flight.Standing.TheVariants.{Reported};
 
-use crate::walk::{Counts, settle, settled_from};
+use crate::walk::{Counts, is_unreached, settle, settled_from};
 use circular_buffer::HeapCircularBuffer;
 use dccp_options::AckReport;
 use seq_circle::{NoMemory, Seq48};
@@ -143,7 +143,7 @@ impl Flight {
         ensures few { result.acked ≤ 2048 }
         ensures congested { result.congested ≡ is_congested (state_at report.now.ack report.now.bytes) mark self.old }
     {
-        if self.counts.settled == self.entries.len() {
+        if is_unreached(&self.entries, &self.counts, report) {
             return FlightNews {
                 acked: 0,
                 congested: false,
@@ -152,7 +152,8 @@ impl Flight {
         self.settle_by(report, mark)
     }
 
-    // The same, if an entry is not yet Reported. It is a separate function, so that the other case costs no call.
+    // The same, if the report may reach an entry that is not Reported. It is a separate function, so that the other case
+    // costs no call.
     #[inline(never)]
     fn settle_by(&mut self, report: &AckReport<'_>, mark: Option<Seq48>) -> FlightNews
         ensures entries { self.new ≡ after_report (state_at report.now.ack report.now.bytes) self.old }

@@ -8,19 +8,21 @@
 //! lost long ago, or that was sent after the numbers that they reach. A Lost entry stays until 2,048 later ones drive
 //! it out.
 //!
+//! While an older entry is Out, the pass cannot end, and an entry that is Reported costs no look at the report.
+//!
 //! Numbers need not rise: the contracts hold for every list. `span` is the sum of the steps from each number to the
 //! next since the list was empty. The pass leaves out newest entries only if that sum and the most that a report
 //! reaches are together at most the distance from an entry up to the acknowledgement number, as they are if the entry
 //! lies past it. It ends early only if the sum and the distance from the entry up to the acknowledgement number are
 //! together less than one turn of the circle. If numbers fall, the sum is too large for both, and the pass goes over
 //! the list down to `settled`.
-ghost use Rattle.std.specs.Prelude.{◌≡◌, ℕ, ◌+◌, ◌<◌, ◌≤◌, ◌&&◌, ◌||◌, not, nat_le, length, take, drop, slice_get, slice_set, Some, Option};
+ghost use Rattle.std.specs.Prelude.{◌≡◌, ℕ, ◌+◌, ◌<◌, ◌≤◌, ◌&&◌, ◌||◌, IsTrue, not, nat_le, length, take, drop, slice_get, slice_set, Some, Option};
 ghost use Rattle.circular_buffer.specs.Buffer.{buffer};
 ghost use Rattle.dccp_options.specs.Vectors.{state_at, is_received, is_unmarked, is_marked};
 ghost use Rattle.congestion_trait.specs.Flight.{pipe_of, reported_count, after_report, acked_count, is_congested, is_out, is_reported, is_past};
-ghost use Rattle.congestion_trait.specs.Walk.{standing_after, one_if, IsTop, AllReported, AllUnheard, FlightInvariant};
+ghost use Rattle.congestion_trait.specs.Walk.{standing_after, one_if, AllReported, AllUnheard, FlightInvariant};
 
-use crate::cursor::Cursor;
+use crate::cursor::{Cursor, ends_before, is_out_of_reach};
 use crate::flight::{FlightEntry, Standing};
 use circular_buffer::HeapCircularBuffer;
 use dccp_options::AckReport;
@@ -160,16 +162,33 @@ impl FlightWalk {
     }
 }
 
-// The place from which on all entries are Out and the report reaches none.
-fn unheard_from<'a>(
+// Whether no entry is known to be reached by a report, and the report reaches none: all that are not Reported lie after
+// its numbers.
+pub fn is_unreached(
     entries: &HeapCircularBuffer<FlightEntry>,
     counts: &Counts,
-    report: &AckReport<'a>,
-    cursor: &Cursor<'a>,
+    report: &AckReport<'_>,
+) -> bool
+    requires kept { FlightInvariant entries.now.items entries.now.capacity counts.now }
+    ensures { IsTrue result → AllUnheard (state_at report.now.ack report.now.bytes) (drop counts.now.settled entries.now.items) }
+{
+    if counts.settled < counts.heard {
+        return false;
+    }
+    match entries.get(counts.settled) {
+        Some(entry) => is_out_of_reach(report, entry.number, counts.span),
+        None => true,
+    }
+}
+
+// The place from which on all entries are Out and the report reaches none.
+fn unheard_from(
+    entries: &HeapCircularBuffer<FlightEntry>,
+    counts: &Counts,
+    report: &AckReport<'_>,
 ) -> usize
     requires few { length report.now.bytes ≤ 1008 }
     requires kept { FlightInvariant entries.now.items entries.now.capacity counts.now }
-    requires top { IsTop report.now cursor.now.top }
     ensures within { result ≤ length entries.now.items }
     ensures settled { counts.now.settled ≤ result }
     ensures unheard { AllUnheard (state_at report.now.ack report.now.bytes) (drop result entries.now.items) }
@@ -177,7 +196,7 @@ fn unheard_from<'a>(
     let mut place = counts.heard.max(counts.settled);
     while place < entries.len() {
         let entry = entry_at(entries, place);
-        if cursor.is_out_of_reach(report, entry.number, counts.span) {
+        if is_out_of_reach(report, entry.number, counts.span) {
             return place;
         }
         place += 1;
@@ -204,7 +223,7 @@ pub fn settle(
     ensures unheard { AllUnheard (state_at report.now.ack report.now.bytes) (drop result.heard entries.old.items) }
 {
     let mut cursor = Cursor::new(report);
-    let heard = unheard_from(entries, counts, report, &cursor);
+    let heard = unheard_from(entries, counts, report);
     let unheard = (entries.len() - heard) as u32;
     let mut walk = FlightWalk {
         acked: 0,
@@ -220,10 +239,14 @@ pub fn settle(
     while index > untouched {
         index -= 1;
         let entry = entry_at(entries, index);
+        if is_reported(entry.standing) && walk.seen != counts.out {
+            walk.reported += 1;
+            continue;
+        }
         let state = cursor.state(report, entry.number);
         let standing = walk.step(&entry, state, mark);
         set_standing(entries, index, standing);
-        if walk.seen == counts.out && cursor.ends_before(report, state, entry.number, counts.span) {
+        if walk.seen == counts.out && ends_before(report, state, entry.number, counts.span) {
             untouched = index;
         }
     }

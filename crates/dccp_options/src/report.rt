@@ -120,6 +120,14 @@ impl<'a> AckReport<'a> {
         None
     }
 
+    /// The acknowledgement number: the highest number that the report can say something of.
+    pub fn ack(&self) -> Seq48
+        ensures value { result ≡ self.now.ack }
+        ensures bytes_fit { length self.now.bytes ≤ 1008 }
+    {
+        self.ack
+    }
+
     /// The runs of the vectors, one a byte, from the acknowledgement number downwards.
     pub fn runs(&self) -> ReportRuns<'a>
         ensures value { result ≡ runs_of self.now.ack self.now.bytes }

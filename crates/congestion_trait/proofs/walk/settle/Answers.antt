@@ -4,7 +4,7 @@ use Rattle.congestion_trait.proofs.Settled.{report_from, acked_from, congested_f
 use Rattle.circular_buffer.specs.Buffer.{buffer}
 use Rattle.dccp_options.specs.Vectors.{state_at}
 use Rattle.congestion_trait.specs.Walk.{IsAlong}
-use Rattle.congestion_trait.proofs.Settling.{turn, cut, few_yet, IsStep}
+use Rattle.congestion_trait.proofs.Settling.{turn, turn_reported, cut, few_yet, IsStep}
 use Rattle.congestion_trait.proofs.Unheard.{begins_from}
 use Rattle.congestion_trait.proofs.Near.{untouched_below, if_none}
 use Rattle.congestion_trait.proofs.walk.settle.Goals as goal
@@ -15,7 +15,6 @@ loop-untouched-init c =
     let old = c.args.entries.now.items in (
       begins_from told c.args.mark.now old c.unheard_from-heard.result _ c.unheard_from-heard.ensures.unheard (omega (arith, c.len.ensures.len)),
       c.new-cursor.ensures.stands,
-      c.new-cursor.ensures.top,
       refl,
       c.unheard_from-heard.ensures.settled,
       c.unheard_from-heard.ensures.within,
@@ -50,17 +49,29 @@ loop-untouched-preserved-then-ends_before c =
     let cut = cut told c.args.mark.now old c.loop-untouched.entries.items c.loop-untouched.index (c.loop-untouched.index - 1) entry c.loop-untouched.walk
     (omega arith) (omega arith) c.loop-untouched.invariant.0 c.entry_at-entry.ensures in
     let below = untouched_below c.args.report.now.ack c.args.report.now.bytes c.args.counts.now.span (c.loop-untouched.index - 1) old
-    (drop c.loop-untouched.index old) entry cut (c.requires.kept.near ends.1) (sym along.seen ∙ c.if-walk-counts.true ∙ c.requires.kept.counted)
-    ends.2 (if_none c.state-state.result ends.0 c.state-state.ensures.none) in (
+    (drop c.loop-untouched.index old) entry cut (c.requires.kept.near (omega (arith, ends.1))) (sym along.seen ∙ c.if-walk-counts-2.true ∙ c.requires.kept.counted)
+    ends.1 (if_none c.state-state.result ends.0 c.state-state.ensures.none) in (
       rw written along,
       c.state-state.ensures.stands,
-      c.state-state.ensures.top,
-      rw written c.loop-untouched.invariant.3,
+      rw written c.loop-untouched.invariant.2,
       omega arith,
       omega arith,
       below,
-      c.step-standing.ensures.heard ∙ c.loop-untouched.invariant.7,
+      c.step-standing.ensures.heard ∙ c.loop-untouched.invariant.6,
     )
+
+pub loop-untouched-preserved-then-walk-counts : goal.loop-untouched-preserved-then-walk-counts
+loop-untouched-preserved-then-walk-counts c = (
+  turn_reported (state_at c.args.report.now.ack c.args.report.now.bytes) c.args.mark.now c.args.entries.now.items c.loop-untouched.entries.items
+      c.loop-untouched.index (c.loop-untouched.index - 1) c.entry_at-entry.result c.loop-untouched.walk (omega arith) (omega arith)
+      c.loop-untouched.invariant.0 c.entry_at-entry.ensures (sym c.is_reported.ensures ∙ c.if-is_reported.true),
+  c.loop-untouched.invariant.1,
+  c.loop-untouched.invariant.2,
+  omega arith,
+  omega arith,
+  c.loop-untouched.invariant.5,
+  c.loop-untouched.invariant.6,
+)
 
 pub loop-untouched-preserved : goal.loop-untouched-preserved
 loop-untouched-preserved c =
@@ -82,12 +93,11 @@ loop-untouched-preserved c =
     c.entry_at-entry.ensures c.state-state.ensures.value step in (
       rw written along,
       c.state-state.ensures.stands,
-      c.state-state.ensures.top,
-      rw written c.loop-untouched.invariant.3,
+      rw written c.loop-untouched.invariant.2,
       omega arith,
       omega arith,
-      c.loop-untouched.invariant.6,
-      c.step-standing.ensures.heard ∙ c.loop-untouched.invariant.7,
+      c.loop-untouched.invariant.5,
+      c.step-standing.ensures.heard ∙ c.loop-untouched.invariant.6,
     )
 
 pub returns : goal.returns
@@ -96,15 +106,15 @@ returns c =
     let mark = c.args.mark.now in
     let old = c.args.entries.now.items in
     let from = c.loop-untouched.untouched in
-    let front = c.loop-untouched.invariant.6 in
+    let front = c.loop-untouched.invariant.5 in
     let reached : c.loop-untouched.index ≡ from = omega arith in
     let along = subst (λ i. IsAlong told mark old i c.loop-untouched.entries.items c.loop-untouched.walk) reached c.loop-untouched.invariant.0 in
     let items = along.entries ∙ report_from told mark old from front in
     record {
-      entries = ap (λ l. buffer l c.loop-untouched.entries.capacity) items ∙ ap (λ n. buffer (after_report told old) n) c.loop-untouched.invariant.3;
+      entries = ap (λ l. buffer l c.loop-untouched.entries.capacity) items ∙ ap (λ n. buffer (after_report told old) n) c.loop-untouched.invariant.2;
       acked = along.acked ∙ acked_from told mark old from front;
       congested = along.congested ∙ congested_from told mark old from front;
       out = along.out ∙ pipe_from told mark old from front;
-      within = rw c.loop-untouched.invariant.7 c.unheard_from-heard.ensures.within;
-      unheard = rw c.loop-untouched.invariant.7 c.unheard_from-heard.ensures.unheard;
+      within = rw c.loop-untouched.invariant.6 c.unheard_from-heard.ensures.within;
+      unheard = rw c.loop-untouched.invariant.6 c.unheard_from-heard.ensures.unheard;
     }

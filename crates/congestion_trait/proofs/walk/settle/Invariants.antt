@@ -1,13 +1,12 @@
 use Rattle.std.proofs.Common.{◌≡◌, ◌≤◌, length, take}
 use Rattle.dccp_options.specs.Vectors.{state_at, states}
-use Rattle.congestion_trait.specs.Walk.{IsAt, IsTop, IsAlong, AllUntouched}
+use Rattle.congestion_trait.specs.Walk.{IsAt, IsAlong, AllUntouched}
 use Rattle.congestion_trait.proofs.walk.settle.Given as goal
 
 abbrev pub invariant-loop-untouched : goal.invariant-loop-untouched
 invariant-loop-untouched l =
     IsAlong (state_at l.report.ack l.report.bytes) l.mark l.fn.entries.items l.index l.entries.items l.walk
     × IsAt (states l.report.bytes) l.cursor.start l.cursor.end l.cursor.state l.cursor.left l.cursor.ended
-    × IsTop l.report l.cursor.top
     × (l.entries.capacity ≡ l.fn.entries.capacity)
     × (l.untouched ≤ l.index)
     × (l.index ≤ length l.fn.entries.items)

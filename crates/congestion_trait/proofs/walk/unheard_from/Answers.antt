@@ -23,4 +23,4 @@ pub returns-then-is_out_of_reach-clause-unheard : goal.returns-then-is_out_of_re
 returns-then-is_out_of_reach-clause-unheard c =
     unheard_after c.args.report.now.ack c.args.report.now.bytes c.args.counts.now.span c.loop-place.place c.args.entries.now.items
     c.entry_at-entry.result c.requires.few c.entry_at-entry.ensures c.loop-place.invariant.2 c.requires.kept.near
-    (c.is_out_of_reach.ensures c.if-is_out_of_reach.true)
+    (c.is_out_of_reach.ensures.value c.if-is_out_of_reach.true)

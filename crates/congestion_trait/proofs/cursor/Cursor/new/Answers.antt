@@ -1,5 +1,5 @@
 use Rattle.std.proofs.Common.{refl, sym, ◌∙◌}
-use Rattle.congestion_trait.proofs.Runs.{at_the_first, at_no_run, first_at_the_top, no_byte}
+use Rattle.congestion_trait.proofs.Runs.{at_the_first, at_no_run}
 use Rattle.congestion_trait.proofs.cursor.Cursor.new.Goals as goal
 
 pub returns-in-Some : goal.returns-in-Some
@@ -9,7 +9,6 @@ returns-in-Some c =
     let runs = sym c.runs-left.ensures.value ∙ c.in-Some.ensures.steps in
     record {
       begins = refl;
-      top = first_at_the_top bytes ack c.in-Some.run' c.next.new.self runs;
       stands = rw c.from.ensures (at_the_first bytes ack c.in-Some.run' c.next.new.self runs);
       few = c.runs-left.ensures.bytes_fit;
     }
@@ -21,7 +20,6 @@ returns-in-None c =
     let none = sym c.runs-left.ensures.value ∙ c.in-None.ensures.steps.0 in
     record {
       begins = refl;
-      top = no_byte bytes ack none;
       stands = rw c.in-None.ensures.steps.1 (at_no_run bytes ack 0 none);
       few = c.runs-left.ensures.bytes_fit;
     }
