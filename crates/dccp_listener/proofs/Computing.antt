@@ -1,9 +1,7 @@
 -- What is computed of a list of deeds is a run: one deed by cases on what its peer has, and the induction over all.
 use Rattle.dccp_states.specs.Phases.{is_closed}
 use Rattle.std.proofs.Common.{◌≡◌, refl, ap, sym, ◌∙◌, ℕ, Bool, true, false, cond, if◌then◌else◌, List, [], ◌∷◌, Option, Some, None, IsSome, is_some}
-use Rattle.std.proofs.lemmas.Map.{lookup-remove_entry, lookup-set_value}
-use Rattle.std.proofs.lemmas.Map.Keys.{IsDistinct-from_sorted}
-use Rattle.std.specs.Map.{keys_of, remove_entry, set_value}
+use Rattle.std.specs.Map.{remove_entry, set_value}
 use Rattle.ccid_two.specs.Kinds.{Both}
 use Rattle.dccp_endpoint.specs.Controlled.{EndStep}
 use Rattle.dccp_endpoint.specs.Inputs.{EndAnswer}
@@ -12,11 +10,11 @@ use Rattle.dccp_endpoint.specs.Strangers.{stays_in}
 use Rattle.dccp_listener.specs.Calls.{IsStep}
 use Rattle.dccp_listener.specs.Chain.{Arrives, Calls, ChainStep, Deed, chain_step, flow_step, fresh_end}
 use Rattle.dccp_listener.specs.Listens.{AreInOrder, WhatIsComputedIsARun, is_table_full, listening_after, listens_by, fresh_met, with_end}
-use Rattle.dccp_listener.specs.Peers.{FlowEnd, Flows, ListenerState, end_of_peer, is_peer, peer_cmp}
+use Rattle.dccp_listener.specs.Peers.{FlowEnd, Flows, ListenerState, end_of_peer, is_peer}
 use Rattle.dccp_listener.specs.Runs.{IsTurnSo}
 use Rattle.dccp_listener.specs.declared.peer.Peer.{Peer}
-use Rattle.dccp_listener.proofs.InOrder.{found_insert, in_order_insert, in_order_remove, in_order_set}
-use Rattle.dccp_listener.proofs.OnePeer.{peers_alike}
+use Rattle.dccp_listener.proofs.InOrder.{found_insert, own_insert, in_order_insert, in_order_remove, in_order_set}
+use Rattle.dccp_listener.proofs.Searching.{others_found, own_found, value_gone, value_set}
 
 -- a step of which this end is left
 abbrev shows : Option FlowEnd → EndStep Both EndAnswer → ChainStep
@@ -25,23 +23,16 @@ shows after step = record { after = after; frame = step.frame; seen = Some (seen
 abbrev nothing_shown : Option FlowEnd → ChainStep
 nothing_shown after = record { after = after; frame = None; seen = None }
 
-own-after : (peer : Peer) (e : FlowEnd) (flows : Flows) (over : Bool) → AreInOrder flows → IsSome (end_of_peer flows peer)
+pub own_after : (peer : Peer) (e : FlowEnd) (flows : Flows) (over : Bool) → AreInOrder flows → IsSome (end_of_peer flows peer)
     → end_of_peer (if over then remove_entry (is_peer peer) flows else set_value (is_peer peer) flows e) peer ≡ (if over then None else Some e)
-own-after peer e flows true ordered there =
-    lookup-remove_entry peers_alike (is_peer peer) (peers_alike.congr peer) peer flows (IsDistinct-from_sorted peer_cmp (keys_of flows) ordered)
-    ∙ ap (λ (b : Bool). cond b None (end_of_peer flows peer)) (peers_alike.refl peer)
-own-after peer e flows false ordered there =
-    lookup-set_value peers_alike (is_peer peer) (peers_alike.congr peer) peer e flows there
-    ∙ ap (λ (b : Bool). cond b (Some e) (end_of_peer flows peer)) (peers_alike.refl peer)
+own_after peer e flows true ordered there = own_found peer None flows _ (value_gone peer flows _ ordered refl).1
+own_after peer e flows false ordered there = own_found peer (Some e) flows _ (value_set peer flows _ e ordered there refl).1
 
 others-after : (peer other : Peer) (e : FlowEnd) (flows : Flows) (over : Bool) → AreInOrder flows → IsSome (end_of_peer flows peer) → is_peer peer other ≡ false
     → end_of_peer (if over then remove_entry (is_peer peer) flows else set_value (is_peer peer) flows e) other ≡ end_of_peer flows other
-others-after peer other e flows true ordered there apart =
-    lookup-remove_entry peers_alike (is_peer peer) (peers_alike.congr peer) other flows (IsDistinct-from_sorted peer_cmp (keys_of flows) ordered)
-    ∙ ap (λ (b : Bool). cond b None (end_of_peer flows other)) apart
+others-after peer other e flows true ordered there apart = others_found peer None flows _ (value_gone peer flows _ ordered refl).1 other apart
 others-after peer other e flows false ordered there apart =
-    lookup-set_value peers_alike (is_peer peer) (peers_alike.congr peer) other e flows there
-    ∙ ap (λ (b : Bool). cond b (Some e) (end_of_peer flows other)) apart
+    others_found peer (Some e) flows _ (value_set peer flows _ e ordered there refl).1 other apart
 
 -- an end of a flow takes a step
 stands-step : (l : ListenerState) (peer : Peer) (deed : Deed) (e : FlowEnd) → end_of_peer l.flows peer ≡ Some e → AreInOrder l.flows
@@ -52,7 +43,7 @@ stands-step l peer deed e found ordered =
     let there : IsSome (end_of_peer l.flows peer) = ap is_some found in
     let shown = λ (after : Option FlowEnd). shows after (flow_step e deed) in
     record {
-      own = ap shown (own-after peer next l.flows (is_closed next.state.phase) ordered there)
+      own = ap shown (own_after peer next l.flows (is_closed next.state.phase) ordered there)
           ∙ ap (λ (x : Option FlowEnd). chain_step l.config peer x deed) (sym found);
       others = λ other apart. others-after peer other next l.flows (is_closed next.state.phase) ordered there apart;
       same_config = refl;
@@ -81,12 +72,11 @@ meets l peer iss bytes found true true is = refl
 meets l peer iss bytes found true false is =
     let step : EndStep Both EndAnswer = flow_step (fresh_end l.config peer iss bytes) (Arrives iss bytes) in
     record {
-      own = ap (λ (x : Option FlowEnd). shows x step)
-          (found_insert peer peer step.after l.flows ∙ ap (λ (b : Bool). cond b (Some step.after) (end_of_peer l.flows peer)) (peers_alike.refl peer))
+      own = ap (λ (x : Option FlowEnd). shows x step) (own_insert peer step.after l.flows)
           ∙ ap (λ (b : Bool). shows (if b then Some step.after else None) step) (sym is)
           ∙ ap (λ (x : Option FlowEnd). chain_step l.config peer x (Arrives iss bytes)) (sym found);
       others = λ other apart. found_insert other peer step.after l.flows
-          ∙ ap (λ (b : Bool). cond b (Some step.after) (end_of_peer l.flows other)) (peers_alike.symm other peer ∙ apart);
+          ∙ ap (λ (b : Bool). cond b (Some step.after) (end_of_peer l.flows other)) apart;
       same_config = refl;
     }
 

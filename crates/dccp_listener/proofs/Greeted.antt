@@ -1,5 +1,5 @@
 -- A fresh end that hears a datagram and goes is the flow that the datagram opens.
-use Rattle.std.proofs.Common.{◌≡◌, ℕ, Bool, true, false, List, Option, Some, None, cond, ap, ◌∙◌}
+use Rattle.std.proofs.Common.{◌≡◌, ℕ, Bool, true, false, List, Option, None, ap, ◌∙◌}
 use Rattle.ccid_two.specs.Kinds.{Both}
 use Rattle.dccp_endpoint.specs.Controlled.{EndStep}
 use Rattle.dccp_endpoint.specs.Inputs.{EndAnswer}
@@ -9,8 +9,7 @@ use Rattle.dccp_listener.specs.Greeting.{GreetingsOpen}
 use Rattle.dccp_listener.specs.Listens.{ListenerStep, fresh_met, is_table_full, listens, listens_by}
 use Rattle.dccp_listener.specs.Peers.{FlowEnd, ListenerState, end_of_peer}
 use Rattle.dccp_listener.specs.declared.peer.Peer.{Peer}
-use Rattle.dccp_listener.proofs.InOrder.{found_insert}
-use Rattle.dccp_listener.proofs.OnePeer.{peers_alike}
+use Rattle.dccp_listener.proofs.InOrder.{own_insert}
 
 module _ (l : ListenerState) (peer : Peer) (iss : ℕ) (bytes : List ℕ) where
   abbrev step : EndStep Both EndAnswer
@@ -29,6 +28,5 @@ greeted_opens l peer iss bytes none room stays =
     let is = opened l peer iss bytes none room stays in (
       ap (λ (it : ListenerStep). it.frame) is,
       ap (λ (it : ListenerStep). end_of_peer it.flows peer) is
-          ∙ found_insert peer peer (step l peer iss bytes).after l.flows
-          ∙ ap (λ (here : Bool). cond here (Some (step l peer iss bytes).after) (end_of_peer l.flows peer)) (peers_alike.refl peer),
+          ∙ own_insert peer (step l peer iss bytes).after l.flows,
     )

@@ -7,7 +7,7 @@ use Rattle.std.specs.Ordering.{MatchOrdering, ordering_then}
 use Rattle.dccp_listener.specs.Numbers.{AreDigits}
 
 -- how two numbers compare
-abbrev Ranks : Ordering → ℕ → ℕ → Type 0
+abbrev pub Ranks : Ordering → ℕ → ℕ → Type 0
 Ranks o x y = MatchOrdering o (x < y) (x ≡ y) (y < x)
 
 -- a further digit

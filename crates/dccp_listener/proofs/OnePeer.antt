@@ -13,13 +13,13 @@ exact_peers a b h =
     ap (λ (p : List ℕ × ℕ). record { address = p.0; port = p.1 })
     (exact_pairs (slice_cmp nat_cmp) nat_cmp exact_bytes exact_unsigned (a.address, a.port) (b.address, b.port) h)
 
-equal-from : (o : Ordering) → is_eq o ≡ true → o ≡ Equal
-equal-from Less h = cc h
-equal-from Equal h = refl
-equal-from Greater h = cc h
+pub equal_from : (o : Ordering) → is_eq o ≡ true → o ≡ Equal
+equal_from Less h = cc h
+equal_from Equal h = refl
+equal_from Greater h = cc h
 
 pub one_peer : (a b : Peer) → is_peer a b ≡ true → a ≡ b
-one_peer a b same = exact_peers a b (equal-from (peer_cmp a b) same)
+one_peer a b same = exact_peers a b (equal_from (peer_cmp a b) same)
 
 pub peers_total : IsTotalOrder peer_cmp
 peers_total = then_total (on_total (λ (p : Peer). p.address) nat_list_cmp_total) (on_total (λ (p : Peer). p.port) nat_cmp_total)

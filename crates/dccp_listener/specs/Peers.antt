@@ -1,9 +1,9 @@
 -- The peers of a listener, and the map from each to the end that serves it (own).
-use Rattle.std.specs.Prelude.{Bool, List, Option}
+use Rattle.std.specs.Prelude.{Bool, List, [], ◌∷◌, Option, None, Some, if◌then◌else◌}
 use Rattle.std.specs.BTreeMap.{is_at}
 use Rattle.std.specs.Cmp.Lexicographic.{slice_cmp}
 use Rattle.std.specs.Map.{lookup}
-use Rattle.std.specs.Ordering.{nat_cmp, ordering_then}
+use Rattle.std.specs.Ordering.{is_lt, nat_cmp, ordering_then}
 use Rattle.std.specs.declared.cmp.Ordering.{Ordering}
 use Rattle.ccid_two.specs.Kinds.{Both}
 use Rattle.dccp_endpoint.specs.Controlled.{End}
@@ -34,3 +34,8 @@ end_of_peer flows peer = lookup (is_peer peer) flows
 pub record ListenerState : Type 0 where
   pub config : ListenConfig
   pub flows : List (Peer × End Both)
+
+-- the first of these peers that comes after one, in their order
+abbrev pub peer_after : Peer → List Peer → Option Peer
+peer_after peer [] = None
+peer_after peer (one ∷ rest) = if is_lt (peer_cmp peer one) then Some one else peer_after peer rest

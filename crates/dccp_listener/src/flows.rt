@@ -1,185 +1,97 @@
 //! The flows of a listener: each peer with its end, in the order of peers, and what one deed does to them.
 ghost use Rattle.std.specs.Prelude.{◌≡◌};
 
-use crate::Peer;
-use crate::answers::{answer, receive};
+use crate::{Peer, PeerList};
 use ccid_two::Kinds;
 use dccp_endpoint::{DecodedDatagram, Endpoint, NoMemory, Outbox, Outcome, Seen, UserCall};
 use std::alloc::Global;
-use std::cmp::Ordering;
-use std::marker::Model;
 
-// A peer and its end, which is in a separate block, so that it stays where it is as peers come and go.
-#[derive(Drop)]
-struct Flow {
-    peer: Peer,
-    end: Box<Endpoint<Kinds>>,
-}
-
-impl Model for Flow {
+/// What a flow's end takes: a datagram, or a call of its user (own).
+pub(crate) trait FlowInput {
+    ghost use Rattle.dccp_endpoint.specs.Controlled.{EndStep};
+    ghost use Rattle.ccid_two.specs.Kinds.{Both};
     ghost use Rattle.dccp_listener.specs.Peers.{FlowEnd};
-    ghost use Rattle.dccp_listener.specs.declared.peer.Peer.{Peer};
 
-    ghost Value = { Peer × FlowEnd };
+    /// The end's answer.
+    type Answer;
 
-    ghost view = { λ f. (f.peer, f.end.value) };
+    // An end can take it.
+    ghost Fits: { Self → Type 0 };
+
+    // The step of an end that takes it.
+    ghost step: { Self → FlowEnd → EndStep Both Self.Answer };
+
+    /// An end takes it.
+    fn give_to(&self, end: &mut Endpoint<Kinds>, out: &mut Outbox) -> Self::Answer
+        requires { Fits self.now }
+        ensures after { end.new ≡ (step self.now end.old).after }
+        ensures sent { out.new ≡ (step self.now end.old).frame }
+        ensures answered { result ≡ (step self.now end.old).answer };
 }
 
-/// The flows of a listener, in the order of their peers. Contracts see them as a list.
-#[derive(Drop)]
-pub(crate) struct FlowTable {
-    flows: Vec<Flow>,
-    /// The place where `seek` last found a peer, so that a datagram searches for its peer only once.
-    at_hand: usize,
+impl FlowInput for UserCall<'_> {
+    ghost use Rattle.dccp_listener.specs.Chain.{Calls, asked};
+    ghost use Rattle.dccp_listener.specs.Moves.{seen_step};
+
+    type Answer = Seen;
+
+    ghost Fits = { λ call. Unit {0} };
+
+    ghost step = { λ call e. seen_step e (Calls (asked call)) };
+
+    fn give_to(&self, end: &mut Endpoint<Kinds>, out: &mut Outbox) -> Seen {
+        end.act(*self, out)
+    }
 }
 
-impl Model for FlowTable {
-    ghost use Rattle.dccp_listener.specs.Listens.{AreInOrder};
-    ghost use Rattle.dccp_listener.specs.Peers.{Flows};
-
-    ghost Value = { Flows };
-
-    ghost view = { λ t. t.flows.items };
-
-    ghost invariant = { λ t. AreInOrder t.flows.items };
-}
-
-impl FlowTable {
-    ghost use Rattle.std.specs.Prelude.{◌≡◌, ◌≤◌, ◌+◌, [], None, Some, MatchOption, OnOk, OnErr, length, slice_get, false, if◌then◌else◌};
-    ghost use Rattle.std.specs.BTreeMap.{insert_entry};
-    ghost use Rattle.std.specs.List.Sorted.{IsBinarySearchResult, IsSearchInRange};
-    ghost use Rattle.std.specs.Map.{keys_of, remove_entry};
+impl FlowInput for DecodedDatagram<'_> {
+    ghost use Rattle.std.specs.Prelude.{◌≤◌, length};
     ghost use Rattle.ccid_two.specs.Kinds.{kinds_control};
     ghost use Rattle.dccp_endpoint.specs.Feeding.{receiving};
-    ghost use Rattle.dccp_endpoint.specs.UserCalls.{seen_of};
-    ghost use Rattle.dccp_listener.specs.Chain.{Calls, asked, flow_step};
-    ghost use Rattle.dccp_listener.specs.Listens.{AreInOrder};
+
+    type Answer = Outcome;
+
+    ghost Fits = { λ bytes. length bytes ≤ 2044 };
+
+    ghost step = { λ bytes e. receiving kinds_control e bytes };
+
+    fn give_to(&self, end: &mut Endpoint<Kinds>, out: &mut Outbox) -> Outcome {
+        self.reach(end, out)
+    }
+}
+
+/// The flows of a listener: each peer with its end.
+pub(crate) type FlowTable = PeerList<Endpoint<Kinds>>;
+
+impl PeerList<Endpoint<Kinds>> {
+    ghost use Rattle.std.specs.Prelude.{◌≡◌, ◌≤◌, ◌+◌, None, Some, OnOk, OnErr, length, false, if◌then◌else◌};
+    ghost use Rattle.std.specs.BTreeMap.{insert_entry};
+    ghost use Rattle.std.specs.Map.{remove_entry};
     ghost use Rattle.dccp_listener.specs.Moves.{FlowMoves, FlowSteps};
     ghost use Rattle.dccp_listener.specs.Peers.{end_of_peer, is_peer, peer_cmp};
 
-    /// No flows. It takes no memory.
-    pub(crate) fn new(alloc: Global) -> FlowTable
-        ensures { result ≡ [] }
-    {
-        FlowTable {
-            flows: Vec::new(alloc),
-            at_hand: 0,
-        }
-    }
-
-    /// How many flows there are.
-    pub(crate) fn len(&self) -> usize
-        ensures { result ≡ length self.now }
-    {
-        self.flows.len()
-    }
-
-    // The place of a peer's flow, or where it would be.
-    fn search(&self, peer: Peer) -> Result<usize, usize>
-        ensures bound { IsSearchInRange result (length self.now) }
-        ensures position { IsBinarySearchResult (λ flow. peer_cmp flow.0 peer) self.now result }
-    {
-        self.flows.binary_search_by_key(&peer, |flow| flow.peer)
-    }
-
-    // The same; most often the peer is at hand.
-    fn place_of(&self, peer: Peer) -> Result<usize, usize>
-        ensures bound { IsSearchInRange result (length self.now) }
-        ensures position { IsBinarySearchResult (λ flow. peer_cmp flow.0 peer) self.now result }
-    {
-        match self.flows.get(self.at_hand) {
-            Some(flow) => match flow.peer.cmp(&peer) {
-                Ordering::Equal => Ok(self.at_hand),
-                Ordering::Less | Ordering::Greater => self.search(peer),
-            },
-            None => self.search(peer),
-        }
-    }
-
-    /// The peer is at hand from now on, and found without a search.
-    pub(crate) fn seek(&mut self, peer: Peer)
-        ensures { self.new ≡ self.old }
-    {
-        self.at_hand = match self.place_of(peer) {
-            Ok(place) | Err(place) => place,
-        };
-    }
-
-    /// The end of a peer, if it has one.
-    pub(crate) fn end(&self, peer: Peer) -> Option<&Endpoint<Kinds>>
-        ensures { MatchOption result (end_of_peer self.now peer ≡ None) (λ end. end_of_peer self.now peer ≡ Some end.now) }
-    {
-        match self.place_of(peer) {
-            Ok(place) => Some(&self.flows[place].end),
-            Err(_) => None,
-        }
-    }
-
-    /// The peer at a place, if there is one.
-    pub(crate) fn peer(&self, place: usize) -> Option<Peer>
-        ensures value { result ≡ slice_get (keys_of self.now) place }
-        ensures ordered { AreInOrder self.now }
-    {
-        match self.flows.get(place) {
-            Some(flow) => Some(flow.peer),
-            None => None,
-        }
-    }
-
-    // The peer's end takes a call in place: its answer, and whether the end is over.
-    fn call(&mut self, peer: Peer, call: UserCall<'_>, out: &mut Outbox) -> Option<(Seen, bool)>
-        requires { out.old ≡ None }
-        ensures moves { FlowMoves (λ e. flow_step e (Calls (asked call.entry))) seen_of (end_of_peer self.old peer) (end_of_peer self.new peer) self.old self.new peer out.new result }
-        ensures others { (other : Peer) → is_peer peer other ≡ false
-            → end_of_peer self.new other ≡ end_of_peer self.old other }
-        ensures count { length self.new ≡ length self.old }
-    {
-        match self.place_of(peer) {
-            Ok(place) => {
-                let end = &mut self.flows[place].end;
-                let seen = answer(end, call, out);
-                let over = end.phase().is_closed();
-                Some((seen, over))
-            }
-            Err(_) => None,
-        }
-    }
-
-    // The peer's end hears a datagram in place: its answer, and whether the end is over.
-    fn receive(
+    // The peer's end takes this in its place: its answer, and whether the end is over.
+    fn advance<I: FlowInput>(
         &mut self,
         peer: Peer,
-        datagram: &DecodedDatagram<'_>,
+        input: &I,
         out: &mut Outbox,
-    ) -> Option<(Outcome, bool)>
+    ) -> Option<(I::Answer, bool)>
         requires empty { out.old ≡ None }
-        requires short { length datagram.now ≤ 2044 }
-        ensures moves { FlowMoves (λ e. receiving kinds_control e datagram.now) (λ outcome. outcome) (end_of_peer self.old peer) (end_of_peer self.new peer) self.old self.new peer out.new result }
+        requires fits { I.Fits input.now }
+        ensures moves { FlowMoves (I.step input.now) (end_of_peer self.old peer) (end_of_peer self.new peer) self.old self.new peer out.new result }
         ensures others { (other : Peer) → is_peer peer other ≡ false
             → end_of_peer self.new other ≡ end_of_peer self.old other }
         ensures count { length self.new ≡ length self.old }
     {
         match self.place_of(peer) {
             Ok(place) => {
-                let end = &mut self.flows[place].end;
-                let outcome = receive(end, datagram, out);
+                let end = &mut self.entries[place].value;
+                let answer = input.give_to(end, out);
                 let over = end.phase().is_closed();
-                Some((outcome, over))
+                Some((answer, over))
             }
             Err(_) => None,
-        }
-    }
-
-    // The peer's end goes.
-    fn remove(&mut self, peer: Peer)
-        ensures own { end_of_peer self.new peer ≡ None }
-        ensures others { (other : Peer) → is_peer peer other ≡ false
-            → end_of_peer self.new other ≡ end_of_peer self.old other }
-        ensures entries { self.new ≡ remove_entry (is_peer peer) self.old }
-        ensures count { length self.new ≤ length self.old }
-    {
-        if let Ok(place) = self.place_of(peer) {
-            let _ = self.flows.remove(place);
         }
     }
 
@@ -196,42 +108,26 @@ impl FlowTable {
         }
     }
 
-    /// The peer's end takes a call, and goes if it is over. None if the peer has no end.
+    /// The peer's end takes a datagram or a call, and goes if it is over. None if the peer has no end.
     #[tactic(auto, using(crate::proofs::Removing::removed))]
-    pub(crate) fn act(&mut self, peer: Peer, call: UserCall<'_>, out: &mut Outbox) -> Option<Seen>
-        requires { out.old ≡ None }
-        ensures steps { FlowSteps (λ e. flow_step e (Calls (asked call.entry))) seen_of (end_of_peer self.old peer) (end_of_peer self.new peer) self.old self.new peer out.new result }
-        ensures others { (other : Peer) → is_peer peer other ≡ false
-            → end_of_peer self.new other ≡ end_of_peer self.old other }
-        ensures count { length self.new ≤ length self.old }
-    {
-        let Some((seen, over)) = self.call(peer, call, out) else {
-            return None;
-        };
-        self.settle(peer, over);
-        Some(seen)
-    }
-
-    /// The peer's end hears a datagram, and goes if it is over. None if the peer has no end.
-    #[tactic(auto, using(crate::proofs::Removing::removed))]
-    pub(crate) fn hear(
+    pub(crate) fn take<I: FlowInput>(
         &mut self,
         peer: Peer,
-        datagram: &DecodedDatagram<'_>,
+        input: &I,
         out: &mut Outbox,
-    ) -> Option<Outcome>
+    ) -> Option<I::Answer>
         requires empty { out.old ≡ None }
-        requires short { length datagram.now ≤ 2044 }
-        ensures steps { FlowSteps (λ e. receiving kinds_control e datagram.now) (λ outcome. outcome) (end_of_peer self.old peer) (end_of_peer self.new peer) self.old self.new peer out.new result }
+        requires fits { I.Fits input.now }
+        ensures steps { FlowSteps (I.step input.now) (end_of_peer self.old peer) (end_of_peer self.new peer) self.old self.new peer out.new result }
         ensures others { (other : Peer) → is_peer peer other ≡ false
             → end_of_peer self.new other ≡ end_of_peer self.old other }
         ensures count { length self.new ≤ length self.old }
     {
-        let Some((outcome, over)) = self.receive(peer, datagram, out) else {
+        let Some((answer, over)) = self.advance(peer, input, out) else {
             return None;
         };
         self.settle(peer, over);
-        Some(outcome)
+        Some(answer)
     }
 
     /// The peer, which has none, gets this end. NoMemory if there is none for it, and then nothing changes.
@@ -249,16 +145,6 @@ impl FlowTable {
         ensures unchanged { OnErr result (self.new ≡ self.old) }
         ensures count { length self.new ≤ length self.old + 1 }
     {
-        let Ok(end) = Box::new(alloc, end) else {
-            return Err(NoMemory);
-        };
-        let Err(place) = self.search(peer) else {
-            // It has none.
-            unreachable!();
-        };
-        let Ok(()) = self.flows.insert(place, Flow { peer, end }) else {
-            return Err(NoMemory);
-        };
-        Ok(())
+        self.insert(alloc, peer, end)
     }
 }

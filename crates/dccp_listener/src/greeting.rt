@@ -7,7 +7,6 @@ ghost use Rattle.dccp_endpoint.specs.Incoming.{parts_of_packet};
 ghost use Rattle.dccp_packets.specs.Grammar.{decoded};
 ghost use Rattle.dccp_listener.specs.Calls.{reset_by, reset_for};
 
-use crate::answers::receive_packet;
 use ccid_two::Kinds;
 use dccp_endpoint::{Config, Endpoint, Fault, NoMemory, Outbox, Outcome, Seq48, put_reset};
 use dccp_packets::{Number, Packet};
@@ -29,7 +28,7 @@ pub(crate) fn greet(
 {
     let congestion = Kinds::new(alloc)?;
     let mut end = Endpoint::new(alloc, *config, congestion)?;
-    let outcome = receive_packet(&mut end, packet, bytes, out);
+    let outcome = end.receive_packet(packet, bytes, out);
     Ok((end, outcome))
 }
 

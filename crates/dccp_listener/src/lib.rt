@@ -6,7 +6,6 @@
 //! and takes memory only if a peer has no flow.
 #![tactic(auto)]
 
-mod answers;
 mod calls;
 mod config;
 mod flows;
@@ -15,6 +14,7 @@ mod laws;
 mod listener;
 mod meeting;
 mod peer;
+mod peer_list;
 
 pub use crate::calls::{Act, Heard, NoFlow};
 pub use crate::config::{ListenConfig, config_for, requested};
@@ -25,4 +25,5 @@ pub use crate::laws::{
 };
 pub use crate::listener::Listener;
 pub use crate::peer::Peer;
+pub use crate::peer_list::PeerList;
 pub use dccp_states::{Refusal, Seen};

@@ -198,7 +198,7 @@ impl Listener {
         ensures value { MatchOption result (end_of_peer self.now.flows peer ≡ None) (λ end. end_of_peer self.now.flows peer ≡ Some end.now) }
         ensures stands { IfSome result (λ end. IsFlowOf self.now.config peer end.now) }
     {
-        self.flows.end(peer)
+        self.flows.get(peer)
     }
 
     /// Its configuration; its ends make the offers of these lists.

@@ -13,7 +13,6 @@ ghost use Rattle.dccp_listener.specs.Moves.{IsTakenIn};
 ghost use Rattle.dccp_listener.specs.Peers.{end_of_peer, is_peer};
 ghost use Rattle.dccp_listener.specs.Runs.{Stepped, told_of};
 
-use crate::answers::without_memory;
 use crate::config::config_for;
 use crate::flows::FlowTable;
 use crate::greeting::{greet, refuse_packet};
@@ -50,7 +49,10 @@ fn admit(
     let (end, outcome) = greet(alloc, config, packet, bytes, out)?;
     match flows.open(alloc, peer, end) {
         Ok(()) => Ok(outcome),
-        Err(_) => Err(without_memory(out)),
+        Err(fault) => {
+            out.clear();
+            Err(fault)
+        }
     }
 }
 
@@ -110,7 +112,7 @@ pub(crate) fn arrive(
     ensures room { length flows.old ≤ config.now.most → length flows.new ≤ config.now.most }
 {
     out.clear();
-    if let Some(outcome) = flows.hear(peer, datagram, out) {
+    if let Some(outcome) = flows.take(peer, datagram, out) {
         return Ok(Heard::Flow(outcome));
     }
     match datagram.packet() {
@@ -166,7 +168,7 @@ pub(crate) fn perform(
 {
     let _ = config;
     out.clear();
-    match flows.act(peer, call, out) {
+    match flows.take(peer, &call, out) {
         Some(seen) => Ok(seen),
         None => Err(NoFlow),
     }

@@ -4,7 +4,7 @@ use Rattle.std.proofs.Common.{◌≡◌, refl, sym, ap, ◌∙◌, subst, ℕ, z
 use Rattle.std.proofs.lemmas.Bool.{false≢true}
 use Rattle.std.proofs.lemmas.List.Sums.{sum_by-cons}
 use Rattle.std.proofs.lemmas.Map.Entries.{length-keys_of, sum_by-insert_entry, sum_by-remove_entry}
-use Rattle.std.specs.List.{list_any, sum_by}
+use Rattle.std.specs.List.{sum_by}
 use Rattle.std.specs.List.Sorted.{IsStrictlySortedBy}
 use Rattle.std.specs.Map.{keys_of, lookup, values_of}
 use Rattle.std.specs.Option.{option_map}
@@ -37,7 +37,7 @@ use Rattle.dccp_uses.specs.declared.upkeep.Upkeep.{Upkeep}
 use Rattle.dccp_server.proofs.InRooms.{left_by_call}
 use Rattle.dccp_server.proofs.Refusing.{IsResting, kept_at, rests_after, resting}
 use Rattle.dccp_server.proofs.Timing.{same_kept}
-use Rattle.server_peers.proofs.Among.{found_among}
+use Rattle.server_peers.proofs.Among.{found_alike}
 
 one-if : Bool → ℕ
 one-if true = 1
@@ -242,8 +242,7 @@ module _ (now : ℕ) where
     fewer it found =
         let first : IsItsFirst s.upkeeps it = its-first s.upkeeps it (soonest s.upkeeps) found in
         let there : IsSome (end_of_peer s.listening.flows it.0) =
-        found_among (is_peer it.0) s.listening.flows ∙ ap (list_any (is_peer it.0)) (sym is.tied.same_peers) ∙ sym (found_among (is_peer it.0) s.upkeeps)
-        ∙ ap is_some first.1
+        found_alike it.0 s.listening.flows s.upkeeps (sym is.tied.same_peers) ∙ ap is_some first.1
         in
         let same : u it.0 ≡ first.0 = ap (λ (x : Option Upkeep). unwrap_or x (upkeep_begins s.pace)) first.1 in
         fewer-by it.0 it.1 (end_of_peer s.listening.flows it.0) refl there

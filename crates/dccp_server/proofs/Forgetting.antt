@@ -1,20 +1,17 @@
 -- A peer whose flow is forgotten has none.
 use Rattle.dccp_states.specs.Phases.{is_closed}
-use Rattle.std.proofs.Common.{◌≡◌, ◌⊎◌, inl, inr, refl, sym, ap, ◌∙◌, subst, ℕ, Bool, true, false, cond, if◌then◌else◌, List, [], ◌∷◌, Option, Some, None, is_some, IsSome, IfSome}
+use Rattle.std.proofs.Common.{◌≡◌, ◌⊎◌, inl, inr, refl, sym, ap, ◌∙◌, subst, ℕ, Bool, true, false, if◌then◌else◌, List, [], ◌∷◌, Option, Some, None, is_some, IfSome}
 use Rattle.std.proofs.lemmas.Bool.{false≢true}
-use Rattle.std.proofs.lemmas.Map.{lookup-remove_entry, lookup-set_value}
-use Rattle.std.proofs.lemmas.Map.Keys.{IsDistinct-from_sorted}
-use Rattle.std.specs.Map.{keys_of, remove_entry, set_value}
+use Rattle.std.specs.Map.{remove_entry, set_value}
 use Rattle.dccp_endpoint.specs.Calling.{aborts, fires}
 use Rattle.dccp_endpoint.specs.End.{EndState}
 use Rattle.dccp_endpoint.specs.Strangers.{stays_in}
 use Rattle.dccp_listener.proofs.Chains.{each_has_its_chain}
-use Rattle.dccp_listener.proofs.Computing.{computed_runs}
+use Rattle.dccp_listener.proofs.Computing.{computed_runs, own_after}
 use Rattle.dccp_listener.proofs.EndsStand.{ends_stand}
-use Rattle.dccp_listener.proofs.OnePeer.{peers_alike}
 use Rattle.dccp_listener.specs.Chain.{Aborts, Calls, Fires, FlowCall, chain_step, flow_step}
 use Rattle.dccp_listener.specs.Listens.{AreInOrder, listening_after, listens_by, turns_of}
-use Rattle.dccp_listener.specs.Peers.{FlowEnd, Flows, ListenerState, end_of_peer, is_peer, peer_cmp}
+use Rattle.dccp_listener.specs.Peers.{FlowEnd, ListenerState, end_of_peer, is_peer}
 use Rattle.dccp_listener.specs.Runs.{IsChain, PeerTurn, peer_turns}
 use Rattle.dccp_listener.specs.Standing.{IsFlowOf}
 use Rattle.dccp_listener.specs.declared.config.ListenConfig.{ListenConfig}
@@ -58,16 +55,6 @@ module _ (peer : Peer) where
   abbrev end_at : ListenerState → Option FlowEnd
   end_at l = end_of_peer l.flows peer
 
-  removed : (flows : Flows) → AreInOrder flows → end_of_peer (remove_entry (is_peer peer) flows) peer ≡ None
-  removed flows ordered =
-      lookup-remove_entry peers_alike (is_peer peer) (peers_alike.congr peer) peer flows (IsDistinct-from_sorted peer_cmp (keys_of flows) ordered)
-      ∙ ap (λ (b : Bool). cond b None (end_of_peer flows peer)) (peers_alike.refl peer)
-
-  replaced : (flows : Flows) (e : FlowEnd) → IsSome (end_of_peer flows peer) → end_of_peer (set_value (is_peer peer) flows e) peer ≡ Some e
-  replaced flows e there =
-      lookup-set_value peers_alike (is_peer peer) (peers_alike.congr peer) peer e flows there
-      ∙ ap (λ (b : Bool). cond b (Some e) (end_of_peer flows peer)) (peers_alike.refl peer)
-
   -- a peer that has none has none after a call
   none-stays : (l : ListenerState) (call : FlowCall) → end_at l ≡ None → end_at (called l call) ≡ None
   none-stays l call none = ap (λ (found : Option FlowEnd). end_of_peer (listens_by l peer found (Calls call)).flows peer) none ∙ none
@@ -84,7 +71,7 @@ module _ (peer : Peer) where
 
   over-goes : (l : ListenerState) (e : FlowEnd) (call : FlowCall) → AreInOrder l.flows → end_at l ≡ Some e
       → (flow_step e (Calls call)).after.state.phase ≡ phases.Closed → end_at (called l call) ≡ None
-  over-goes l e call ordered is closed = step-by l e call true is (ap is_closed closed) ∙ removed l.flows ordered
+  over-goes l e call ordered is closed = step-by l e call true is (ap is_closed closed) ∙ own_after peer (flow_step e (Calls call)).after l.flows true ordered (ap is_some is)
 
   in-order : (l : ListenerState) (call : FlowCall) → AreInOrder l.flows → AreInOrder (called l call).flows
   in-order l call ordered = (computed_runs l ((peer, Calls call) ∷ []) ordered).1
@@ -94,7 +81,7 @@ module _ (peer : Peer) where
   waits-goes l e ordered is waits =
       let next : FlowEnd = (flow_step e (Calls Aborts)).after in
       let stays : end_at (called l Aborts) ≡ Some next =
-      step-by l e Aborts false is (ap is_closed waits) ∙ replaced l.flows next (ap is_some is) in
+      step-by l e Aborts false is (ap is_closed waits) ∙ own_after peer next l.flows false ordered (ap is_some is) in
       over-goes (called l Aborts) next (Fires timers.TimeWait) (in-order l Aborts ordered) stays (fired next.state _ waits)
 
   gone-so : (l : ListenerState) (e : FlowEnd) → AreInOrder l.flows → end_at l ≡ Some e → IsOverOrWaits (aborts e.state).after.phase

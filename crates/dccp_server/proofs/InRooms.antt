@@ -1,55 +1,26 @@
 -- What a listener has of a peer, after a deed or a rule, is the flow that these leave.
 use Rattle.dccp_states.specs.Phases.{is_closed}
-use Rattle.std.proofs.Common.{◌≡◌, refl, sym, ap, ◌∙◌, subst, ℕ, Bool, true, false, cond, if◌then◌else◌, [], ◌∷◌, Option, Some, None, is_some, IsSome, IfSome, Ordering, Less, Equal, Greater, is_eq}
-use Rattle.std.proofs.lemmas.Map.{lookup-remove_entry, lookup-set_value}
-use Rattle.std.proofs.lemmas.Map.Keys.{IsDistinct-from_sorted}
-use Rattle.std.specs.BTreeMap.{insert_entry}
-use Rattle.std.specs.Map.{keys_of, lookup, remove_entry, set_value}
+use Rattle.std.proofs.Common.{◌≡◌, refl, sym, ap, ◌∙◌, subst, ℕ, Bool, true, false, if◌then◌else◌, Option, Some, None, is_some, IfSome}
 use Rattle.std.specs.Option.{option_map}
-use Rattle.std.specs.Ordering.{match_ordering}
 use Rattle.std.specs.Prelude.{not, unwrap_or}
 use Rattle.ccid_two.specs.Kinds.{Both}
-use Rattle.dccp_listener.proofs.OnePeer.{peers_alike}
+use Rattle.dccp_listener.proofs.Computing.{own_after}
+use Rattle.dccp_listener.proofs.InOrder.{own_insert}
 use Rattle.dccp_listener.specs.Chain.{Arrives, Calls, Deed, FlowCall, flow_step}
-use Rattle.dccp_listener.specs.Listens.{AreInOrder, listening_after, listens, listens_by}
-use Rattle.dccp_listener.specs.Peers.{FlowEnd, Flows, ListenerState, end_of_peer, is_peer, peer_cmp}
+use Rattle.dccp_listener.specs.Listens.{listening_after, listens, listens_by}
+use Rattle.dccp_listener.specs.Peers.{FlowEnd, ListenerState, end_of_peer}
 use Rattle.dccp_listener.specs.Runs.{CallTold}
 use Rattle.dccp_listener.specs.declared.peer.Peer.{Peer}
 use Rattle.dccp_uses.specs.Rules.{due_rule}
 use Rattle.dccp_uses.specs.Timed.{TimedState}
 use Rattle.dccp_uses.specs.Upkeeps.{upkeep_begins}
 use Rattle.dccp_uses.specs.declared.upkeep.Upkeep.{Upkeep}
-use Rattle.dccp_server.specs.Serving.{ServedListener, Upkeeps, call_by_rule, deed_served, happening_by, is_refusal, listening_if, rule_followed, served_through, serving_begins, upkeep_at, upkeeps_then}
+use Rattle.dccp_server.specs.Serving.{ServedListener, call_by_rule, deed_served, happening_by, is_refusal, listening_if, rule_followed, served_through, serving_begins, upkeep_at, upkeeps_then}
 use Rattle.dccp_server.specs.Timing.{BeginsFlow, KeepsFlow, ListenersKeepFlows, flow_after, flow_kept, flow_ruled, flow_then, happening_at, timed_flow, until_over}
 use Rattle.dccp_server.specs.Upkeeps.{arrived_so, called_so, next_upkeep, sight_if}
 use Rattle.dccp_server.specs.declared.happening.FlowHappening.{FlowHappening}
 use Rattle.dccp_server.specs.declared.happening.FlowHappening.TheVariants as happening
 use Rattle.dccp_server.proofs.Refusing.{IsResting, resting}
-
-module _ (peer : Peer) (v : Upkeep) where
-  abbrev put : Upkeeps → Upkeeps
-  put kept = insert_entry peer_cmp kept peer v
-
-  -- what was put for a peer is found there
-  found-by : (one : Peer × Upkeep) (rest : Upkeeps) (o : Ordering) → peer_cmp peer one.0 ≡ o → lookup (is_peer peer) (put rest) ≡ Some v
-      → lookup (is_peer peer) (match_ordering o ((peer, v) ∷ one ∷ rest) ((one.0, v) ∷ rest) (one ∷ put rest)) ≡ Some v
-  found-by one rest Less is later = ap (λ (here : Bool). cond here (Some v) (lookup (is_peer peer) (one ∷ rest))) (peers_alike.refl peer)
-  found-by one rest Equal is later = ap (λ (o : Ordering). cond (is_eq o) (Some v) (lookup (is_peer peer) rest)) is
-  found-by one rest Greater is later = ap (λ (o : Ordering). cond (is_eq o) (Some one.1) (lookup (is_peer peer) (put rest))) is ∙ later
-
-  found-put : (kept : Upkeeps) → lookup (is_peer peer) (put kept) ≡ Some v
-  found-put [] = ap (λ (here : Bool). cond here (Some v) None) (peers_alike.refl peer)
-  found-put (one ∷ rest) = found-by one rest (peer_cmp peer one.0) refl (found-put rest)
-
--- the end that is left of a flow
-end-left : (peer : Peer) (flows : Flows) (next : FlowEnd) (over : Bool) → AreInOrder flows → IsSome (end_of_peer flows peer)
-    → end_of_peer (if over then remove_entry (is_peer peer) flows else set_value (is_peer peer) flows next) peer ≡ (if over then None else Some next)
-end-left peer flows next true ordered there =
-    lookup-remove_entry peers_alike (is_peer peer) (peers_alike.congr peer) peer flows (IsDistinct-from_sorted peer_cmp (keys_of flows) ordered)
-    ∙ ap (λ (here : Bool). cond here None (end_of_peer flows peer)) (peers_alike.refl peer)
-end-left peer flows next false ordered there =
-    lookup-set_value peers_alike (is_peer peer) (peers_alike.congr peer) peer next flows there
-    ∙ ap (λ (here : Bool). cond here (Some next) (end_of_peer flows peer)) (peers_alike.refl peer)
 
 module _ (s : ServedListener) (is : IsResting s) (peer : Peer) (e : FlowEnd) (found : end_of_peer s.listening.flows peer ≡ Some e) where
   abbrev IsLeft : ListenerState → FlowEnd → Type 0
@@ -59,7 +30,7 @@ module _ (s : ServedListener) (is : IsResting s) (peer : Peer) (e : FlowEnd) (fo
   left_by_deed deed =
       let next : FlowEnd = (flow_step e deed).after in
       ap (λ (x : Option FlowEnd). end_of_peer (listens_by s.listening peer x deed).flows peer) found
-      ∙ end-left peer s.listening.flows next (is_closed next.state.phase) is.tied.ordered (ap is_some found)
+      ∙ own_after peer next s.listening.flows (is_closed next.state.phase) is.tied.ordered (ap is_some found)
 
   pub left_by_call : (call : Option FlowCall) → IsLeft (listening_if s.listening peer call) (flow_after e call)
   left_by_call None =
@@ -80,7 +51,7 @@ module _ (now : ℕ) (s : ServedListener) (peer : Peer) where
 
   put-at : (it : FlowHappening) (next : FlowEnd) → left-with it (Some next) ≡ Some (timed_flow next (next_upkeep now s.pace u it next))
   put-at it next =
-      ap (λ (x : Option Upkeep). Some (timed_flow next (unwrap_or x (upkeep_begins s.pace)))) (found-put peer (next_upkeep now s.pace u it next) s.upkeeps)
+      ap (λ (x : Option Upkeep). Some (timed_flow next (unwrap_or x (upkeep_begins s.pace)))) (own_insert peer (next_upkeep now s.pace u it next) s.upkeeps)
 
   kept-by : (it : FlowHappening) (next : FlowEnd) (over : Bool)
       → left-with it (if over then None else Some next) ≡ (if over then None else Some (timed_flow next (next_upkeep now s.pace u it next)))

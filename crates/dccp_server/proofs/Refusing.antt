@@ -1,13 +1,11 @@
 -- A call that is refused changes nothing, neither the listener nor what is kept of its flows.
 use Rattle.dccp_states.specs.Phases.{is_closed}
-use Rattle.std.proofs.Common.{◌≡◌, refl, sym, ap, ◌∙◌, subst, ℕ, Bool, true, false, cond, if◌then◌else◌, List, [], ◌∷◌, Option, Some, None, is_some, IsSome, IfSome, Ordering, Less, Equal, Greater, is_eq, Result, Ok, Err}
+use Rattle.std.proofs.Common.{◌≡◌, refl, sym, ap, ◌∙◌, subst, ℕ, Bool, true, false, if◌then◌else◌, List, [], ◌∷◌, Option, Some, None, is_some, IsSome, IfSome, Result, Ok, Err}
 use Rattle.std.proofs.lemmas.Bool.{false≢true}
 use Rattle.std.proofs.lemmas.Map.Steps.{set_value_same}
 use Rattle.std.specs.BTreeMap.{insert_entry}
-use Rattle.std.specs.List.{list_any}
 use Rattle.std.specs.List.Sorted.{IsStrictlySortedBy}
 use Rattle.std.specs.Map.{keys_of, lookup, remove_entry, set_value}
-use Rattle.std.specs.Ordering.{match_ordering}
 use Rattle.std.specs.Prelude.{unwrap_or}
 use Rattle.ccid_two.specs.Kinds.{Both, kinds_control}
 use Rattle.congestion_trait.specs.Control.{may_send}
@@ -31,6 +29,7 @@ use Rattle.feature_lists.specs.declared.wishes.PreferFault.{PreferFault}
 use Rattle.feature_lists.specs.declared.wishes.Wanted.{Wanted}
 use Rattle.dccp_listener.proofs.Computing.{computed_runs}
 use Rattle.dccp_listener.proofs.OnePeer.{one_peer}
+use Rattle.dccp_listener.proofs.Searching.{none_taken}
 use Rattle.dccp_listener.specs.Chain.{Aborts, Arrives, Calls, ChainStep, Closes, Deed, Fires, FlowCall, Opens, Prefers, Sends, SendsEarly, chain_step, flow_step, fresh_end}
 use Rattle.dccp_listener.specs.Listens.{AreInOrder, listening_after, listens, listens_by, with_end}
 use Rattle.dccp_listener.specs.Peers.{FlowEnd, Flows, ListenerState, end_of_peer, is_peer, peer_cmp}
@@ -44,9 +43,9 @@ use Rattle.dccp_server.specs.Upkeeps.{called_so}
 use Rattle.dccp_server.specs.declared.happening.FlowHappening.{FlowHappening}
 use Rattle.dccp_server.specs.declared.happening.FlowHappening.TheVariants as happening
 use Rattle.dccp_uses.specs.declared.upkeep.Upkeep.{Upkeep}
-use Rattle.server_peers.proofs.Placing.{none_gone}
 use Rattle.dccp_server.proofs.Tying.{begun_tied, tied_does}
-use Rattle.server_peers.proofs.Among.{all_after, found_among, none_from, not_among}
+use Rattle.server_peers.proofs.Among.{found_alike, none_from}
+use Rattle.server_peers.proofs.Writing.{written_over}
 
 -- an end that refuses a call is as it was
 
@@ -122,27 +121,9 @@ refused_same e (Prefers feature place values) is = prefer-same e.state e.congest
 
 -- what is there is written over by itself
 
-module _ (peer : Peer) (v : Upkeep) where
-  abbrev put : Upkeeps → Upkeeps
-  put kept = insert_entry peer_cmp kept peer v
-
-  back-by : (one : Peer × Upkeep) (rest : Upkeeps) (o : Ordering) → peer_cmp peer one.0 ≡ o → IsStrictlySortedBy peer_cmp (keys_of (one ∷ rest))
-      → cond (is_eq o) (Some one.1) (lookup (is_peer peer) rest) ≡ Some v → (lookup (is_peer peer) rest ≡ Some v → put rest ≡ rest)
-      → match_ordering o ((peer, v) ∷ one ∷ rest) ((one.0, v) ∷ rest) (one ∷ put rest) ≡ one ∷ rest
-  unfolding IsStrictlySortedBy
-  back-by one rest Less is ordered found later =
-      absurd
-      (false≢true
-      (sym (not_among peer (keys_of rest) (all_after peer one.0 (keys_of rest) is ordered.0)) ∙ sym (found_among (is_peer peer) rest) ∙ ap is_some found))
-  back-by one rest Equal is ordered found later =
-      let same : v ≡ one.1 = cc in
-      ap (λ (a : Upkeep). (one.0, a) ∷ rest) same
-  back-by one rest Greater is ordered found later = ap (λ (t : Upkeeps). one ∷ t) (later found)
-
-  put-back : (kept : Upkeeps) → IsStrictlySortedBy peer_cmp (keys_of kept) → lookup (is_peer peer) kept ≡ Some v → put kept ≡ kept
-  unfolding IsStrictlySortedBy
-  put-back [] ordered found = cc found
-  put-back (one ∷ rest) ordered found = back-by one rest (peer_cmp peer one.0) refl ordered found (put-back rest ordered.1)
+put-back : (peer : Peer) (v : Upkeep) (kept : Upkeeps) → IsStrictlySortedBy peer_cmp (keys_of kept) → lookup (is_peer peer) kept ≡ Some v
+    → insert_entry peer_cmp kept peer v ≡ kept
+put-back peer v kept ordered found = sym (written_over peer v kept ordered (ap is_some found)) ∙ set_value_same (is_peer peer) kept v found
 
 found-so : (x : Option Upkeep) (none : Upkeep) → IsSome x → x ≡ Some (unwrap_or x none)
 found-so (Some v) none is = refl
@@ -242,7 +223,7 @@ pub kept_at : (s : ServedListener) (peer : Peer) → IsTied s → IsSome (end_of
     → lookup (is_peer peer) s.upkeeps ≡ Some (upkeep_at s.pace s.upkeeps peer)
 kept_at s peer tied there =
     found-so (lookup (is_peer peer) s.upkeeps) (upkeep_begins s.pace)
-    (found_among (is_peer peer) s.upkeeps ∙ ap (list_any (is_peer peer)) tied.same_peers ∙ sym (found_among (is_peer peer) s.listening.flows) ∙ there)
+    (found_alike peer s.upkeeps s.listening.flows tied.same_peers ∙ there)
 
 module _ (now : ℕ) (s : ServedListener) (peer : Peer) (call : FlowCall) (is : IsResting s) where
   abbrev u : Upkeep
@@ -253,15 +234,13 @@ module _ (now : ℕ) (s : ServedListener) (peer : Peer) (call : FlowCall) (is : 
 
   none-kept : end_of_peer s.listening.flows peer ≡ None → lookup (is_peer peer) s.upkeeps ≡ None
   none-kept none =
-      none_from (lookup (is_peer peer) s.upkeeps)
-      (found_among (is_peer peer) s.upkeeps ∙ ap (list_any (is_peer peer)) is.tied.same_peers ∙ sym (found_among (is_peer peer) s.listening.flows)
-      ∙ ap is_some none)
+      none_from (lookup (is_peer peer) s.upkeeps) (found_alike peer s.upkeeps s.listening.flows is.tied.same_peers ∙ ap is_some none)
 
   refused : (found : Option FlowEnd) → end_of_peer s.listening.flows peer ≡ found → is_refusal (listens_by s.listening peer found (Calls call)).told ≡ true
       → by (listens_by s.listening peer found (Calls call)).flows (called_so call (is_refusal (listens_by s.listening peer found (Calls call)).told)) ≡ s
   refused None none told =
       ap (λ (x : Option FlowEnd). served s.listening s.pace (upkeeps_then now s.pace s.upkeeps peer x u happening.Refused)) none
-      ∙ ap (λ (t : Upkeeps). served s.listening s.pace t) (none_gone peer s.upkeeps (none-kept none))
+      ∙ ap (λ (t : Upkeeps). served s.listening s.pace t) (none_taken peer s.upkeeps (none-kept none))
   refused (Some e) found told =
       let live : is_closed e.state.phase ≡ false = subst (λ (x : Option FlowEnd). IfSome x IsLive) found (is.live peer) in
       let flows : Flows = (listens_by s.listening peer (Some e) (Calls call)).flows in

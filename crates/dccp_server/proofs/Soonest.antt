@@ -1,5 +1,5 @@
 -- No flow is passed over: the first ticket of a class is no later than any other of it.
-use Rattle.std.proofs.Common.{◌≡◌, refl, sym, ap, ◌∙◌, subst, ℕ, ◌+◌, ◌-◌, ◌^◌, ◌≤◌, ◌<◌, ◌==◌, ◌||◌, nat_le, nat_lt, Bool, true, false, cond, if◌then◌else◌, T, List, [], ◌∷◌, Option, Some, None, is_some, Ordering, Less, Equal, Greater, is_eq, is_lt, nat_cmp, arith}
+use Rattle.std.proofs.Common.{◌≡◌, refl, sym, ap, ◌∙◌, subst, ℕ, ◌+◌, ◌-◌, ◌^◌, ◌≤◌, ◌<◌, ◌==◌, ◌||◌, nat_le, nat_lt, Bool, true, false, cond, if◌then◌else◌, T, List, [], ◌∷◌, Option, Some, None, is_some, Ordering, Less, Equal, is_eq, is_lt, nat_cmp, arith}
 use Rattle.std.proofs.lemmas.Bool.{false≢true}
 use Rattle.std.proofs.lemmas.Bool.Decides.{nat_tests}
 use Rattle.std.proofs.lemmas.Cmp.{nat_cmp_total, tied_itself}
@@ -9,6 +9,7 @@ use Rattle.std.specs.Map.{keys_of, lookup}
 use Rattle.std.specs.Option.{option_map}
 use Rattle.std.specs.Ordering.{ordering_then}
 use Rattle.std.specs.Prelude.{unwrap_or}
+use Rattle.dccp_listener.proofs.OnePeer.{equal_from}
 use Rattle.dccp_listener.specs.Peers.{is_peer, peer_cmp}
 use Rattle.dccp_listener.specs.declared.peer.Peer.{Peer}
 use Rattle.dccp_uses.specs.Alarms.{has_run_out, time_left}
@@ -33,14 +34,9 @@ use Rattle.server_peers.proofs.Tickets.{exact_tickets, found, its_ticket, queue_
 
 -- the first ticket of a class comes first
 
-equal-from : (o : Ordering) → is_eq o ≡ true → o ≡ Equal
-equal-from Less h = cc h
-equal-from Equal h = refl
-equal-from Greater h = cc h
-
 below-by : (one q two : Ticket) (rest : List Ticket) (here : Bool) → is_eq (ticket_cmp q two) ≡ here → ticket_cmp one two ≡ Less
     → cond here (Some tt) (found q rest) ≡ Some tt → (found q rest ≡ Some tt → ticket_cmp one q ≡ Less) → ticket_cmp one q ≡ Less
-below-by one q two rest true same less is later = ap (λ (t : Ticket). ticket_cmp one t) (exact_tickets q two (equal-from (ticket_cmp q two) same)) ∙ less
+below-by one q two rest true same less is later = ap (λ (t : Ticket). ticket_cmp one t) (exact_tickets q two (equal_from (ticket_cmp q two) same)) ∙ less
 below-by one q two rest false same less is later = later is
 
 below-found : (one q : Ticket) (queue : List Ticket) → T (below_all ticket_cmp one (paired queue)) → found q queue ≡ Some tt → ticket_cmp one q ≡ Less
@@ -69,10 +65,10 @@ IsNoLater q (Some t) = t.time ≤ q.time
 no-later-by : (q one : Ticket) (rest : List Ticket) (class here : Bool) → (one.class == q.class) ≡ class → is_eq (ticket_cmp q one) ≡ here
     → T (below_all ticket_cmp one (paired rest)) → cond here (Some tt) (found q rest) ≡ Some tt
     → (found q rest ≡ Some tt → IsNoLater q (first_in q.class rest)) → IsNoLater q (if class then Some one else first_in q.class rest)
-no-later-by q one rest true true class same below is later = omega (arith, ap (λ (t : Ticket). t.time) (exact_tickets q one (equal-from (ticket_cmp q one) same)))
+no-later-by q one rest true true class same below is later = omega (arith, ap (λ (t : Ticket). t.time) (exact_tickets q one (equal_from (ticket_cmp q one) same)))
 no-later-by q one rest true false class same below is later = time-from one q (below-found one q rest below is) (same-number one.class q.class class)
 no-later-by q one rest false true class same below is later =
-    absurd (two-numbers one.class q.class class (sym (ap (λ (t : Ticket). t.class) (exact_tickets q one (equal-from (ticket_cmp q one) same)))))
+    absurd (two-numbers one.class q.class class (sym (ap (λ (t : Ticket). t.class) (exact_tickets q one (equal_from (ticket_cmp q one) same)))))
 no-later-by q one rest false false class same below is later = later is
 
 no-later : (q : Ticket) (queue : List Ticket) → AreTicketsInOrder queue → found q queue ≡ Some tt → IsNoLater q (first_in q.class queue)
@@ -171,7 +167,7 @@ module _ (upkeeps : Upkeeps) (ordered : IsStrictlySortedBy peer_cmp (keys_of upk
     where
       by : (b : Bool) → is_eq (ticket_cmp t (ticket (0, e) t.peer)) ≡ b → cond b (Some tt) (stands None t) ≡ Some tt → IsItsEnd t
       by true same there =
-          (u, is, at ∙ ap (λ (x : Ticket). Some x.time) (sym (exact_tickets t (ticket (0, e) t.peer) (equal-from (ticket_cmp t (ticket (0, e) t.peer)) same))))
+          (u, is, at ∙ ap (λ (x : Ticket). Some x.time) (sym (exact_tickets t (ticket (0, e) t.peer) (equal_from (ticket_cmp t (ticket (0, e) t.peer)) same))))
       by false same there = cc there
 
   kept-by : (t : Ticket) (found : Option Upkeep) → lookup (is_peer t.peer) upkeeps ≡ found → stands (moment_if upkeep_moment found) t ≡ Some tt → IsItsEnd t

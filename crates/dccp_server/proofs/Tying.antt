@@ -1,11 +1,9 @@
 -- The peers of which something is kept are those that have a flow, and who has a flow has a place for it.
 use Rattle.dccp_states.specs.Phases.{is_closed}
-use Rattle.std.proofs.Common.{◌≡◌, refl, sym, ap, ◌∙◌, subst, ℕ, Bool, true, false, cond, ◌||◌, if◌then◌else◌, List, [], ◌∷◌, Option, Some, None, is_some, IsSome, inl, inr, Result, Ok, Err, OnErr, Ordering, Less, Equal, Greater, is_eq}
+use Rattle.std.proofs.Common.{◌≡◌, refl, sym, ap, ◌∙◌, subst, ℕ, Bool, true, false, cond, if◌then◌else◌, List, [], ◌∷◌, Option, Some, None, is_some, IsSome, inl, inr, Result, Ok, Err, OnErr, Ordering, Less, Equal, Greater}
 use Rattle.std.proofs.lemmas.Bool.{false≢true}
-use Rattle.std.proofs.lemmas.Map.{keys-set_value, lookup-remove_entry, lookup-set_value}
-use Rattle.std.proofs.lemmas.Map.Keys.{IsDistinct-from_sorted}
+use Rattle.std.proofs.lemmas.Map.{keys-set_value}
 use Rattle.std.specs.BTreeMap.{insert_entry}
-use Rattle.std.specs.List.{AllByRecursion, list_any}
 use Rattle.std.specs.List.Sorted.{IsStrictlySortedBy}
 use Rattle.std.specs.Map.{keys_of, lookup, remove_entry, set_value}
 use Rattle.std.specs.Ordering.{match_ordering}
@@ -14,9 +12,9 @@ use Rattle.dccp_endpoint.specs.Strangers.{stays_in}
 use Rattle.dccp_packets.specs.Outgoing.{Outgoing}
 use Rattle.dccp_endpoint.specs.Controlled.{EndStep}
 use Rattle.dccp_endpoint.specs.Inputs.{EndAnswer}
-use Rattle.dccp_listener.proofs.Computing.{computed_runs}
-use Rattle.dccp_listener.proofs.InOrder.{found_insert}
-use Rattle.dccp_listener.proofs.OnePeer.{peers_alike}
+use Rattle.dccp_listener.proofs.Computing.{computed_runs, own_after}
+use Rattle.dccp_listener.proofs.InOrder.{own_insert}
+use Rattle.dccp_listener.proofs.Searching.{none_taken}
 use Rattle.dccp_listener.specs.Calls.{Arrived}
 use Rattle.dccp_listener.specs.Chain.{Arrives, Calls, Deed, FlowCall, flow_step, fresh_end}
 use Rattle.dccp_listener.specs.Listens.{AreInOrder, fresh_met, is_table_full, listening_after, listens_by}
@@ -34,7 +32,8 @@ use Rattle.dccp_server.specs.declared.happening.FlowHappening.{FlowHappening}
 use Rattle.dccp_server.specs.declared.happening.FlowHappening.TheVariants as happening
 use Rattle.dccp_uses.specs.declared.upkeep.Upkeep.{Upkeep}
 use Rattle.dccp_server.proofs.Through.{none_in_order}
-use Rattle.server_peers.proofs.Among.{found_among, none_from, not_among, all_after}
+use Rattle.server_peers.proofs.Among.{found_alike, none_from}
+use Rattle.server_peers.proofs.Writing.{written_over}
 
 -- peers with one less, and with one more
 
@@ -68,30 +67,6 @@ module _ {X : Type 0} where
   keys-with peer v [] = refl
   keys-with peer v (x ∷ xs) = with-by peer v x xs (insert_entry peer_cmp xs peer v) (with-peer (keys_of xs) peer) (peer_cmp peer x.0) (keys-with peer v xs)
 
--- one that is not there is not taken out
-stays-by : (test : Peer → Bool) (k : Peer) (ks : List Peer) (here : Bool) → (here || list_any test ks) ≡ false
-    → (list_any test ks ≡ false → without test ks ≡ ks) → cond here ks (k ∷ without test ks) ≡ k ∷ ks
-stays-by test k ks true none later = absurd (false≢true (sym none))
-stays-by test k ks false none later = ap (λ (l : List Peer). k ∷ l) (later none)
-
-stays : (test : Peer → Bool) (ks : List Peer) → list_any test ks ≡ false → without test ks ≡ ks
-unfolding without
-stays test [] none = refl
-stays test (k ∷ ks) none = stays-by test k ks (test k) none (stays test ks)
-
--- and one that is there is not put twice
-once-by : (peer k : Peer) (ks : List Peer) (o : Ordering) → peer_cmp peer k ≡ o → AllByRecursion (λ other. peer_cmp k other ≡ Less) ks
-    → (is_eq o || list_any (is_peer peer) ks) ≡ true → (list_any (is_peer peer) ks ≡ true → with-peer ks peer ≡ ks)
-    → match_ordering o (peer ∷ k ∷ ks) (k ∷ ks) (k ∷ with-peer ks peer) ≡ k ∷ ks
-once-by peer k ks Less is all there later = absurd (false≢true (sym (not_among peer ks (all_after peer k ks is all)) ∙ there))
-once-by peer k ks Equal is all there later = refl
-once-by peer k ks Greater is all there later = ap (λ (l : List Peer). k ∷ l) (later there)
-
-once : (peer : Peer) (ks : List Peer) → IsStrictlySortedBy peer_cmp ks → list_any (is_peer peer) ks ≡ true → with-peer ks peer ≡ ks
-unfolding IsStrictlySortedBy with-peer
-once peer [] ordered there = absurd (false≢true there)
-once peer (k ∷ ks) ordered there = once-by peer k ks (peer_cmp peer k) refl ordered.0 there (once peer ks ordered.1)
-
 module _ {V : Type 0} (peer : Peer) (kept : List (Peer × V)) (value : FlowEnd → V) where
   -- the peers of which something is kept, once the peer has this end or none
   abbrev then' : Option FlowEnd → List Peer
@@ -102,31 +77,31 @@ module _ {V : Type 0} (peer : Peer) (kept : List (Peer × V)) (value : FlowEnd �
 
   untouched : (flows : Flows) → keys_of kept ≡ keys_of flows → end_of_peer flows peer ≡ None → then' (end_of_peer flows peer) ≡ keys_of flows
   untouched flows tied none =
-      ap then' none ∙ keys-without (is_peer peer) kept ∙ ap (without (is_peer peer)) tied
-      ∙ stays (is_peer peer) (keys_of flows) (sym (found_among (is_peer peer) flows) ∙ ap is_some none)
+      ap then' none
+      ∙ ap (λ (xs : List (Peer × V)). keys_of xs) (none_taken peer kept (none_from (lookup (is_peer peer) kept) (found_alike peer kept flows tied ∙ ap is_some none)))
+      ∙ tied
+
+  -- one that is there is not put twice
+  put-same : (flows : Flows) (e : FlowEnd) → keys_of kept ≡ keys_of flows → AreInOrder flows → IsSome (end_of_peer flows peer) → then' (Some e) ≡ keys_of flows
+  put-same flows e tied ordered there =
+      ap (λ (xs : List (Peer × V)). keys_of xs)
+      (sym (written_over peer (value e) kept (subst (IsStrictlySortedBy peer_cmp) (sym tied) ordered) (found_alike peer kept flows tied ∙ there)))
+      ∙ keys-set_value (is_peer peer) kept (value e) ∙ tied
 
   stepped : (flows : Flows) (e : FlowEnd) (over : Bool) → keys_of kept ≡ keys_of flows → AreInOrder flows → IsSome (end_of_peer flows peer)
       → then' (end_of_peer (if over then remove_entry (is_peer peer) flows else set_value (is_peer peer) flows e) peer)
       ≡ keys_of (if over then remove_entry (is_peer peer) flows else set_value (is_peer peer) flows e)
   stepped flows e true tied ordered there =
-      ap then'
-      (lookup-remove_entry peers_alike (is_peer peer) (peers_alike.congr peer) peer flows (IsDistinct-from_sorted peer_cmp (keys_of flows) ordered)
-      ∙ ap (λ (b : Bool). cond b None (end_of_peer flows peer)) (peers_alike.refl peer))
+      ap then' (own_after peer e flows true ordered there)
       ∙ keys-without (is_peer peer) kept ∙ ap (without (is_peer peer)) tied ∙ sym (keys-without (is_peer peer) flows)
   stepped flows e false tied ordered there =
-      ap then'
-      (lookup-set_value peers_alike (is_peer peer) (peers_alike.congr peer) peer e flows there
-      ∙ ap (λ (b : Bool). cond b (Some e) (end_of_peer flows peer)) (peers_alike.refl peer))
-      ∙ put e ∙ ap (λ (ks : List Peer). with-peer ks peer) tied ∙ once peer (keys_of flows) ordered (sym (found_among (is_peer peer) flows) ∙ there)
-      ∙ sym (keys-set_value (is_peer peer) flows e)
+      ap then' (own_after peer e flows false ordered there) ∙ put-same flows e tied ordered there ∙ sym (keys-set_value (is_peer peer) flows e)
 
   -- so it is where the flows stay
   pub kept_same : (flows : Flows) (found : Option FlowEnd) → end_of_peer flows peer ≡ found → keys_of kept ≡ keys_of flows → AreInOrder flows
       → then' found ≡ keys_of flows
   kept_same flows None is tied ordered = sym (ap then' is) ∙ untouched flows tied is
-  kept_same flows (Some e) is tied ordered =
-      put e ∙ ap (λ (ks : List Peer). with-peer ks peer) tied
-      ∙ once peer (keys_of flows) ordered (sym (found_among (is_peer peer) flows) ∙ ap is_some is)
+  kept_same flows (Some e) is tied ordered = put-same flows e tied ordered (ap is_some is)
 
   met : (l : ListenerState) (iss : ℕ) (bytes : List ℕ) (step : EndStep Both EndAnswer) (stays full : Bool) → keys_of kept ≡ keys_of l.flows
       → end_of_peer l.flows peer ≡ None
@@ -134,9 +109,7 @@ module _ {V : Type 0} (peer : Peer) (kept : List (Peer × V)) (value : FlowEnd �
   met l iss bytes step false full tied none = untouched l.flows tied none
   met l iss bytes step true true tied none = untouched l.flows tied none
   met l iss bytes step true false tied none =
-      ap then'
-      (found_insert peer peer step.after l.flows ∙ ap (λ (b : Bool). cond b (Some step.after) (end_of_peer l.flows peer)) (peers_alike.refl peer))
-      ∙ put step.after ∙ ap (λ (ks : List Peer). with-peer ks peer) tied ∙ sym (keys-with peer step.after l.flows)
+      ap then' (own_insert peer step.after l.flows) ∙ put step.after ∙ ap (λ (ks : List Peer). with-peer ks peer) tied ∙ sym (keys-with peer step.after l.flows)
 
   pub tied_by : (l : ListenerState) (found : Option FlowEnd) (deed : Deed) → end_of_peer l.flows peer ≡ found → keys_of kept ≡ keys_of l.flows → AreInOrder l.flows
       → then' (end_of_peer (listens_by l peer found deed).flows peer) ≡ keys_of (listens_by l peer found deed).flows
@@ -211,7 +184,7 @@ pub no_flow : (s : ServedListener) (peer : Peer) → keys_of s.upkeeps ≡ keys_
     → end_of_peer s.listening.flows peer ≡ None
 no_flow s peer tied none =
     none_from (end_of_peer s.listening.flows peer)
-    (found_among (is_peer peer) s.listening.flows ∙ ap (list_any (is_peer peer)) (sym tied) ∙ sym (found_among (is_peer peer) s.upkeeps) ∙ ap is_some none)
+    (found_alike peer s.listening.flows s.upkeeps (sym tied) ∙ ap is_some none)
 
 stranger-by : (s : ServedListener) (peer : Peer) (iss : ℕ) (bytes : List ℕ) → keys_of s.upkeeps ≡ keys_of s.listening.flows
     → WantsMemory s peer (Arrives iss bytes) → end_of_peer s.listening.flows peer ≡ None
@@ -234,8 +207,7 @@ calls_want_none config pace all peer call wants =
 place-by : {V : Type 0} (flows : Flows) (kept : List (Peer × V)) (peer : Peer) (found : Option FlowEnd) → keys_of kept ≡ keys_of flows
     → end_of_peer flows peer ≡ found → HasPlaceIf found kept peer
 place-by {V} flows kept peer None tied is = tt
-place-by {V} flows kept peer (Some e) tied is =
-    found_among (is_peer peer) kept ∙ ap (list_any (is_peer peer)) tied ∙ sym (found_among (is_peer peer) flows) ∙ ap is_some is
+place-by {V} flows kept peer (Some e) tied is = found_alike peer kept flows tied ∙ ap is_some is
 
 pub place_if : {V : Type 0} (flows : Flows) (kept : List (Peer × V)) (peer : Peer) → keys_of kept ≡ keys_of flows
     → HasPlaceIf (end_of_peer flows peer) kept peer

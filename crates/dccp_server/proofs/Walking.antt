@@ -1,17 +1,14 @@
 -- A walk from peer to peer names each of a list in order once.
 use Rattle.std.proofs.Common.{◌≡◌, refl, sym, ap, ◌∙◌, subst, ℕ, zero, suc, ◌≤◌, List, [], ◌∷◌, ◌++◌, length, Option, Some, if◌then◌else◌, Ordering, Less, append_assoc, arith}
 use Rattle.std.proofs.lemmas.Cmp.{tied_itself}
-use Rattle.std.specs.List.{AllByRecursion}
 use Rattle.std.specs.List.Sorted.{IsStrictlySortedBy}
 use Rattle.std.specs.Ordering.{is_lt, ordering_reverse}
 use Rattle.std.specs.Prelude.{slice_get}
+use Rattle.dccp_listener.proofs.InOrder.{AllAfter}
 use Rattle.dccp_listener.proofs.OnePeer.{peers_total}
 use Rattle.dccp_listener.specs.Peers.{peer_cmp}
 use Rattle.dccp_listener.specs.declared.peer.Peer.{Peer}
 use Rattle.server_peers.specs.Places.{WalksNameEachOnce, peer_after, peers_walked}
-
-abbrev AllAfter : Peer → List Peer → Type 0
-AllAfter peer peers = AllByRecursion (λ other. peer_cmp peer other ≡ Less) peers
 
 is-after : (first : Peer) (before : List Peer) (peer : Peer) (rest : List Peer) → AllAfter first (before ++ peer ∷ rest) → peer_cmp first peer ≡ Less
 is-after first [] peer rest all = all.0

@@ -11,6 +11,7 @@ use Rattle.std.specs.Map.{keys_of}
 use Rattle.std.specs.Ordering.{match_ordering, ordering_index, ordering_reverse}
 use Rattle.std.specs.Prelude.{OnErr, OnOk, OnSome}
 use Rattle.std.specs.Result.{MatchResult}
+use Rattle.dccp_listener.proofs.Searching.{index_by}
 use Rattle.server_peers.specs.Queues.{paired}
 
 pub first_of : (a b : Bool) → T (a && b) → T a
@@ -35,13 +36,6 @@ inserted (Err e) items full lt = absurd (omega (arith, full, lt))
 pub removed : {X : Type 0} {P : Type 0} (r : Option X) → OnSome r P → IsSome r → P
 removed None items there = absurd (false≢true there)
 removed (Some x) items there = items
-
-index-by : (a b : Ordering) → (b ≡ Less → a ≡ Less) → (b ≡ Equal → a ≡ Less) → ordering_index a ≤ ordering_index b
-index-by a Less f g = omega (arith, ap ordering_index (f refl))
-index-by a Equal f g = omega (arith, ap ordering_index (g refl))
-index-by Less Greater f g = omega arith
-index-by Equal Greater f g = omega arith
-index-by Greater Greater f g = omega arith
 
 module _ {K : Type 0} where
   unpaired : (ks : List K) → keys_of (paired ks) ≡ ks
@@ -126,7 +120,7 @@ module _ {K : Type 0} where
 
     module _ (o : IsTotalOrder R) (k : K) (ks : List K) (h : T (is_sorted R (paired ks))) where
       rises-by : (x y : K) → R x y ≡ Less → ordering_index (R x k) ≤ ordering_index (R y k)
-      rises-by x y less = index-by (R x k) (R y k) (λ is. o.trans x y k less is) (λ is. sym (alike_right o y k x is) ∙ less)
+      rises-by x y less = index_by (R x k) (R y k) (λ is. o.trans x y k less is) (λ is. sym (alike_right o y k x is) ∙ less)
 
       rises : IsNonDecreasingBy (λ y. ordering_index (R y k)) ks
       rises i j d le lt = elim (cases_lt i j) [

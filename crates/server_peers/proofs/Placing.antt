@@ -1,21 +1,15 @@
 -- A place that was made for what is kept of a peer changes nothing of what that is then.
-use Rattle.std.proofs.Common.{◌≡◌, refl, sym, ap, ◌∙◌, subst, Bool, true, false, cond, List, [], ◌∷◌, Option, Some, None, Ordering, Less, Equal, Greater, is_eq}
+use Rattle.std.proofs.Common.{◌≡◌, refl, sym, ap, ◌∙◌, Bool, true, false, cond, List, [], ◌∷◌, Option, Some, None, Ordering, Less, Equal, Greater, is_eq}
+use Rattle.std.proofs.lemmas.Cmp.{tied_itself}
 use Rattle.std.specs.BTreeMap.{insert_entry}
 use Rattle.std.specs.Map.{lookup, remove_entry}
 use Rattle.std.specs.Ordering.{match_ordering}
 use Rattle.std.specs.Prelude.{if◌then◌else◌}
-use Rattle.dccp_listener.proofs.OnePeer.{one_peer, peers_alike}
+use Rattle.dccp_listener.proofs.OnePeer.{peers_alike, peers_total}
+use Rattle.dccp_listener.proofs.Searching.{none_taken}
 use Rattle.dccp_listener.specs.Peers.{FlowEnd, is_peer, peer_cmp}
 use Rattle.dccp_listener.specs.declared.peer.Peer.{Peer}
-use Rattle.server_peers.specs.Places.{IsAtHand, IsPlaced, kept_then}
-
-equal-from : (o : Ordering) → is_eq o ≡ true → o ≡ Equal
-equal-from Less h = cc h
-equal-from Equal h = refl
-equal-from Greater h = cc h
-
-itself : (peer : Peer) → peer_cmp peer peer ≡ Equal
-itself peer = equal-from (peer_cmp peer peer) (peers_alike.refl peer)
+use Rattle.server_peers.specs.Places.{IsPlaced, kept_then}
 
 module _ {X : Type 0} (peer : Peer) where
   abbrev put : List (Peer × X) → X → List (Peer × X)
@@ -27,7 +21,7 @@ module _ {X : Type 0} (peer : Peer) where
   -- what is written over does not count
   at-itself : (v w : X) (rest : List (Peer × X))
       → match_ordering (peer_cmp peer peer) ((peer, w) ∷ (peer, v) ∷ rest) ((peer, w) ∷ rest) ((peer, v) ∷ put rest w) ≡ (peer, w) ∷ rest
-  at-itself v w rest = ap (λ (o : Ordering). match_ordering o ((peer, w) ∷ (peer, v) ∷ rest) ((peer, w) ∷ rest) ((peer, v) ∷ put rest w)) (itself peer)
+  at-itself v w rest = ap (λ (o : Ordering). match_ordering o ((peer, w) ∷ (peer, v) ∷ rest) ((peer, w) ∷ rest) ((peer, v) ∷ put rest w)) (tied_itself peers_total peer)
 
   put-by : (v w : X) (one : Peer × X) (rest : List (Peer × X)) (o : Ordering) → peer_cmp peer one.0 ≡ o → put (put rest v) w ≡ put rest w
       → put (match_ordering o ((peer, v) ∷ one ∷ rest) ((one.0, v) ∷ rest) (one ∷ put rest v)) w
@@ -41,16 +35,6 @@ module _ {X : Type 0} (peer : Peer) where
   pub put_twice : (v w : X) (timers : List (Peer × X)) → put (put timers v) w ≡ put timers w
   put_twice v w [] = at-itself v w []
   put_twice v w (one ∷ rest) = put-by v w one rest (peer_cmp peer one.0) refl (put_twice v w rest)
-
-  -- a peer that has no timers is not taken out
-  none-by : (one : Peer × X) (rest : List (Peer × X)) (here : Bool) → cond here (Some one.1) (lookup (is_peer peer) rest) ≡ None
-      → (lookup (is_peer peer) rest ≡ None → gone rest ≡ rest) → cond here rest (one ∷ gone rest) ≡ one ∷ rest
-  none-by one rest true none later = cc none
-  none-by one rest false none later = ap (λ (t : List (Peer × X)). one ∷ t) (later none)
-
-  pub none_gone : (timers : List (Peer × X)) → lookup (is_peer peer) timers ≡ None → gone timers ≡ timers
-  none_gone [] none = refl
-  none_gone (one ∷ rest) none = none-by one rest (is_peer peer one.0) none (none_gone rest)
 
   -- one that was put there is
   rest-none : (one : Peer × X) (rest : List (Peer × X)) (here : Bool) → cond here (Some one.1) (lookup (is_peer peer) rest) ≡ None
@@ -80,7 +64,7 @@ undone {X} fresh peer before after is = ap (λ (t : List (Peer × X)). remove_en
 
 then-from : {X : Type 0} (fresh : X) (peer : Peer) (before : List (Peer × X)) (value : FlowEnd → X) (end : Option FlowEnd) → lookup (is_peer peer) before ≡ None
     → kept_then (insert_entry peer_cmp before peer fresh) peer value end ≡ kept_then before peer value end
-then-from fresh peer before value None none = put_gone peer fresh before none ∙ sym (none_gone peer before none)
+then-from fresh peer before value None none = put_gone peer fresh before none ∙ sym (none_taken peer before none)
 then-from fresh peer before value (Some e) none = put_twice peer fresh (value e) before
 
 pub then_placed : {X : Type 0} (fresh : X) (had : Bool) (before after : List (Peer × X)) (peer : Peer) (value : FlowEnd → X) (end : Option FlowEnd)
@@ -93,9 +77,3 @@ pub taken_back : {X : Type 0} (fresh : X) (had : Bool) (before after : List (Pee
     → (if had then after else remove_entry (is_peer peer) after) ≡ before
 taken_back fresh true before after peer is = is.1
 taken_back fresh false before after peer is = undone fresh peer before after is
-
--- what is at hand of a peer is found there
-pub at_hand_is : {X : Type 0} (at_hand : Option (Peer × X)) (kept : List (Peer × X)) (last : Peer) (value : X) (peer : Peer) → IsAtHand at_hand kept
-    → at_hand ≡ Some (last, value) → is_peer last peer ≡ true → lookup (is_peer peer) kept ≡ Some value
-at_hand_is {X} at_hand kept last value peer is same here =
-    subst (λ (p : Peer). lookup (is_peer p) kept ≡ Some value) (one_peer last peer here) (subst (λ (a : Option (Peer × X)). IsAtHand a kept) same is)

@@ -12,17 +12,13 @@ use Rattle.std.specs.FinMap.Entries.{below_all, is_sorted}
 use Rattle.std.specs.Int.{from_be_bytes, to_be_bytes, w32}
 use Rattle.std.specs.List.{filter}
 use Rattle.std.specs.List.Sorted.{IsPartitionPoint, IsPartitionedBy}
-use Rattle.std.specs.Ordering.{MatchOrdering, match_ordering, ordering_then}
-use Rattle.dccp_listener.proofs.Numbers.{in_order}
+use Rattle.std.specs.Ordering.{match_ordering, ordering_then}
+use Rattle.dccp_listener.proofs.Numbers.{Ranks, in_order}
 use Rattle.dccp_listener.specs.Numbers.{AreDigits}
 use Rattle.dccp_listener.specs.Peers.{peer_cmp}
 use Rattle.server_peers.proofs.Ordered.{first_of, less_at, rest_of}
 use Rattle.server_peers.specs.Queues.{AreTicketsInOrder, BeginsAt, paired, ticket_at, ticket_cmp, tickets_at, without}
 use Rattle.server_peers.specs.declared.queue.Ticket.{Ticket}
-
--- how two numbers compare
-abbrev Ranks : Ordering → ℕ → ℕ → Type 0
-Ranks o x y = MatchOrdering o (x < y) (x ≡ y) (y < x)
 
 peers-apart : (o s : Ordering) (a b : ℕ) → Ranks o (a / 2 ^ 48) (b / 2 ^ 48) → Ranks s (a % 2 ^ 48) (b % 2 ^ 48) → Ranks (ordering_then o s) a b
 peers-apart Less s a b first then = omega (arith, first)

@@ -1,5 +1,5 @@
 -- The queue of tickets goes on with what is kept of a peer.
-use Rattle.std.proofs.Common.{◌≡◌, refl, sym, ap, ◌∙◌, subst, ℕ, ◌+◌, ◌≤◌, ◌<◌, Bool, true, false, cond, not, T, List, [], ◌∷◌, length, Option, Some, None, is_some, if◌then◌else◌, Ordering, Less, Equal, Greater, is_eq, nat_cmp, arith}
+use Rattle.std.proofs.Common.{◌≡◌, refl, sym, ap, ◌∙◌, subst, ℕ, ◌+◌, ◌≤◌, ◌<◌, Bool, true, false, cond, not, T, List, [], ◌∷◌, length, Option, Some, None, is_some, OnSome, Ordering, Less, Equal, Greater, is_eq, nat_cmp, arith}
 use Rattle.std.proofs.lemmas.Bool.{false≢true}
 use Rattle.std.proofs.lemmas.Cmp.{alike_right, eq_by_cmp_equiv, nat_cmp_total, on_total, then_total}
 use Rattle.std.proofs.lemmas.Map.Lookups.{CmpEqualImpliesEq, exact_pairs, exact_unsigned}
@@ -216,10 +216,6 @@ goes_on moment kept after queue moved room more peer was next is ordered had up 
       room = enough;
     }
 
-pub one_more_at_most : {V : Type 0} (found : Option V) (n : ℕ) → n + (if is_some found then 0 else 1) ≤ n + 1
-one_more_at_most None n = omega arith
-one_more_at_most (Some v) n = omega arith
-
 module _ {V : Type 0} (moment : V → Option (ℕ × ℕ)) (kept : List (Peer × V)) (peer : Peer) (was : V) (had : lookup (is_peer peer) kept ≡ Some was) where
   itself-by : (q : Peer) (here : Bool) → is_peer peer q ≡ here → lookup (is_peer q) kept ≡ cond here (Some was) (lookup (is_peer q) kept)
   itself-by q true is = ap (λ (p : Peer). lookup (is_peer p) kept) (sym (one_peer peer q is)) ∙ had
@@ -235,6 +231,10 @@ module _ {V : Type 0} (moment : V → Option (ℕ × ℕ)) (kept : List (Peer ×
       ∙ ap (λ (m : Option (ℕ × ℕ)). queued m peer (unqueued (moment was) peer (queue_of moment kept))) same
       ∙ ap (λ (l : List Ticket). queued (moment next) peer (unqueued (moment was) peer l)) (sym is.is_queue))
       enough
+
+pub if_some : {X P : Type 0} (x : Option X) → P → OnSome x P
+if_some None is = tt
+if_some (Some x) is = is
 
 -- what is kept of a peer is something
 pub is_some_kept : {V : Type 0} (peer : Peer) (kept : List (Peer × V)) → is_some (lookup (is_peer peer) kept) ≡ true → 1 ≤ length kept

@@ -1,9 +1,9 @@
 -- What is kept of each peer that has a flow, in the order of the peers (own).
-use Rattle.std.specs.Prelude.{◌≡◌, ◌≤◌, ℕ, zero, suc, length, slice_get, Bool, true, false, List, [], ◌∷◌, Option, Some, None, IsSome, if◌then◌else◌}
+use Rattle.std.specs.Prelude.{◌≡◌, ◌≤◌, ℕ, zero, suc, length, slice_get, Bool, true, false, List, [], ◌∷◌, Option, Some, None, IsSome}
 use Rattle.std.specs.BTreeMap.{insert_entry}
 use Rattle.std.specs.List.Sorted.{IsStrictlySortedBy}
 use Rattle.std.specs.Map.{lookup, remove_entry}
-use Rattle.std.specs.Ordering.{is_lt}
+pub use Rattle.dccp_listener.specs.Peers.{peer_after}
 use Rattle.dccp_listener.specs.Peers.{FlowEnd, is_peer, peer_cmp}
 use Rattle.dccp_listener.specs.declared.peer.Peer.{Peer}
 
@@ -16,16 +16,6 @@ kept_then kept peer value (Some e) = insert_entry peer_cmp kept peer (value e)
 abbrev pub IsPlaced : {V : Type 0} → V → Bool → List (Peer × V) → List (Peer × V) → Peer → Type 0
 IsPlaced fresh true before after peer = IsSome (lookup (is_peer peer) before) × (after ≡ before)
 IsPlaced fresh false before after peer = (lookup (is_peer peer) before ≡ None) × (after ≡ insert_entry peer_cmp before peer fresh)
-
--- what is at hand of a peer is what is kept of it
-abbrev pub IsAtHand : {V : Type 0} → Option (Peer × V) → List (Peer × V) → Type 0
-IsAtHand None kept = Unit {0}
-IsAtHand (Some it) kept = lookup (is_peer it.0) kept ≡ Some it.1
-
--- the first of these peers that comes after one, in their order
-abbrev pub peer_after : Peer → List Peer → Option Peer
-peer_after peer [] = None
-peer_after peer (one ∷ rest) = if is_lt (peer_cmp peer one) then Some one else peer_after peer rest
 
 -- the peers that a walk names, at most this many: this one, and each time the peer after the last
 abbrev pub peers_walked : ℕ → List Peer → Option Peer → List Peer

@@ -1,5 +1,5 @@
 //! The tickets of peers: the order in which something is due for what is kept of them.
-ghost use Rattle.std.specs.Prelude.{◌≡◌, ◌<◌, ◌≤◌, ◌∷◌, get_or, length, true};
+ghost use Rattle.std.specs.Prelude.{◌≡◌, ◌<◌, ◌≤◌, ◌∷◌, OnSome, get_or, length, true};
 ghost use Rattle.std.specs.BTreeSet.{insert_key};
 ghost use Rattle.std.specs.List.{insert, remove};
 ghost use Rattle.std.specs.List.Sorted.{IsBinarySearchResult, IsSearchInRange};
@@ -168,7 +168,7 @@ pub(crate) fn requeue(
     next: Option<(u8, u64)>,
 )
     requires order { AreTicketsInOrder (tickets_at tickets.old.items) }
-    requires room { length (tickets_at tickets.old.items) < deque_capacity tickets.old }
+    requires room { OnSome next (length (tickets_at tickets.old.items) < deque_capacity tickets.old) }
     ensures moved { tickets_at tickets.new.items ≡ queued next peer (unqueued was peer (tickets_at tickets.old.items)) }
     ensures room { deque_capacity tickets.old ≤ deque_capacity tickets.new }
 {

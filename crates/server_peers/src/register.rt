@@ -1,74 +1,47 @@
 //! What is kept of each peer that has a flow, and the order in which something is due for it.
-ghost use Rattle.std.specs.Prelude.{◌≡◌, IsSome, Some};
-ghost use Rattle.std.specs.Map.{lookup, set_value};
+ghost use Rattle.std.specs.Prelude.{◌≡◌};
+ghost use Rattle.std.specs.Map.{lookup};
 ghost use Rattle.dccp_listener.specs.Peers.{is_peer};
 ghost use Rattle.server_peers.specs.Queues.{moment_if};
 
 use crate::queue::{Ticket, count_in, first_in, is_one_moment, requeue};
 use dccp_endpoint::NoMemory;
-use dccp_listener::Peer;
+use dccp_listener::{Peer, PeerList};
 use path_rules::Moment;
 use std::alloc::Global;
 use std::cmp::Ordering;
-use std::collections::{BTreeMap, VecDeque};
+use std::collections::VecDeque;
 use std::marker::Model;
-use std::ops::Bound;
 
 /// What is kept of each peer that has a flow. Contracts see it as a list, in the order of peers.
 #[derive(Drop)]
 pub struct Register<V: Moment> {
-    entries: BTreeMap<Peer, V>,
+    alloc: Global,
+    entries: PeerList<V>,
     /// The tickets, as numbers.
     tickets: VecDeque<u128>,
-    /// What is kept of the last peer, so that a call that looks at it several times searches once.
-    at_hand: Option<(Peer, V)>,
 }
 
 impl<V: Moment> Model for Register<V> {
     ghost use Rattle.std.specs.Prelude.{List};
     ghost use Rattle.std.specs.VecDeque.{deque_capacity};
     ghost use Rattle.dccp_listener.specs.declared.peer.Peer.{Peer};
-    ghost use Rattle.server_peers.specs.Places.{IsAtHand};
     ghost use Rattle.server_peers.specs.Queues.{IsQueued, tickets_at};
 
     ghost Value = { List (Peer × V) };
 
-    ghost view = { λ r. r.entries.entries };
+    ghost view = { λ r. r.entries };
 
-    ghost invariant = { λ r. IsQueued V.moment_of r.entries.entries (tickets_at r.tickets.items) (deque_capacity r.tickets) × IsAtHand r.at_hand r.entries.entries };
+    ghost invariant = { λ r. IsQueued V.moment_of r.entries (tickets_at r.tickets.items) (deque_capacity r.tickets) };
 }
 
-// Puts what is kept of a peer at hand, in place if something is there.
-fn put_at_hand<V: Copy>(at_hand: &mut Option<(Peer, V)>, peer: Peer, value: &V)
-    ensures { at_hand.new ≡ Some (peer, value.now) }
+// The moment at which what is kept of a peer is due.
+fn moment_of<V: Moment>(entries: &PeerList<V>, peer: Peer) -> Option<(u8, u64)>
+    ensures { result ≡ moment_if V.moment_of (lookup (is_peer peer) entries.now) }
 {
-    match at_hand {
-        Some((last, kept)) => {
-            *last = peer;
-            *kept = *value;
-        }
-        None => *at_hand = Some((peer, *value)),
-    }
-}
-
-// Writes over what is kept of a peer, and returns the moment at which that was due.
-fn write_over<V: Moment>(
-    entries: &mut BTreeMap<Peer, V>,
-    peer: Peer,
-    value: &V,
-) -> Option<(u8, u64)>
-    requires { IsSome (lookup (is_peer peer) entries.old.entries) }
-    ensures written { entries.new.entries ≡ set_value (is_peer peer) entries.old.entries value.now }
-    ensures was { result ≡ moment_if V.moment_of (lookup (is_peer peer) entries.old.entries) }
-{
-    match entries.get_mut(&peer) {
-        Some(place) => {
-            let was = place.moment();
-            *place = *value;
-            was
-        }
-        // The peer has a place.
-        None => unreachable!(),
+    match entries.get(peer) {
+        Some(value) => value.moment(),
+        None => None,
     }
 }
 
@@ -80,7 +53,7 @@ pub fn is_peer(one: Peer, other: Peer) -> bool
 }
 
 impl<V: Moment> Register<V> {
-    ghost use Rattle.std.specs.Prelude.{◌≡◌, [], None, Some, MatchOption, IfOk, IfSome, OnOk, OnErr, IsSome, is_some, length, slice_get, if◌then◌else◌};
+    ghost use Rattle.std.specs.Prelude.{◌≡◌, [], None, Some, MatchOption, IfOk, OnOk, OnErr, IsSome, is_some, length, slice_get, if◌then◌else◌};
     ghost use Rattle.std.specs.BTreeMap.{insert_entry};
     ghost use Rattle.std.specs.Map.{keys_of, lookup, remove_entry};
     ghost use Rattle.dccp_listener.specs.Peers.{is_peer, peer_cmp};
@@ -92,9 +65,9 @@ impl<V: Moment> Register<V> {
         ensures { result ≡ [] }
     {
         Register {
-            entries: BTreeMap::new(alloc),
+            alloc,
+            entries: PeerList::new(alloc),
             tickets: VecDeque::new(alloc),
-            at_hand: None,
         }
     }
 
@@ -102,36 +75,14 @@ impl<V: Moment> Register<V> {
     pub fn seek(&mut self, peer: Peer)
         ensures { self.new ≡ self.old }
     {
-        match self.entries.get(&peer) {
-            Some(value) => put_at_hand(&mut self.at_hand, peer, value),
-            None => self.at_hand = None,
-        }
-    }
-
-    // What is kept of a peer, if it is at hand.
-    fn value_at_hand(&self, peer: Peer) -> Option<&V>
-        ensures { IfSome result (λ value. lookup (is_peer peer) self.now ≡ Some value.now) }
-    {
-        match &self.at_hand {
-            Some((last, value)) => {
-                if is_peer(*last, peer) {
-                    Some(value)
-                } else {
-                    None
-                }
-            }
-            None => None,
-        }
+        self.entries.seek(peer);
     }
 
     /// What is kept of a peer, if something is.
     pub fn get(&self, peer: Peer) -> Option<&V>
         ensures { MatchOption result (lookup (is_peer peer) self.now ≡ None) (λ value. lookup (is_peer peer) self.now ≡ Some value.now) }
     {
-        match self.value_at_hand(peer) {
-            Some(value) => Some(value),
-            None => self.entries.get(&peer),
-        }
+        self.entries.get(peer)
     }
 
     /// Whether something is kept of a peer.
@@ -156,14 +107,9 @@ impl<V: Moment> Register<V> {
         let Ok(()) = self.tickets.try_reserve(more) else {
             return Err(NoMemory);
         };
-        self.at_hand = None;
-        match self.entries.insert(peer, fresh) {
-            Ok(_) => {
-                requeue(&mut self.tickets, peer, None, fresh.moment());
-                Ok(false)
-            }
-            Err(_) => Err(NoMemory),
-        }
+        self.entries.insert(self.alloc, peer, fresh)?;
+        requeue(&mut self.tickets, peer, None, fresh.moment());
+        Ok(false)
     }
 
     /// Removes the peer's place again, unless it had one before.
@@ -180,9 +126,9 @@ impl<V: Moment> Register<V> {
         requires { IsSome (lookup (is_peer peer) self.old) }
         ensures { self.new ≡ insert_entry peer_cmp self.old peer value.now }
     {
-        let from = write_over(&mut self.entries, peer, value);
+        let from = moment_of(&self.entries, peer);
         let to = value.moment();
-        put_at_hand(&mut self.at_hand, peer, value);
+        self.entries.set(peer, value);
         if !is_one_moment(from, to) {
             requeue(&mut self.tickets, peer, from, to);
         }
@@ -192,31 +138,23 @@ impl<V: Moment> Register<V> {
     pub fn remove(&mut self, peer: Peer)
         ensures { self.new ≡ remove_entry (is_peer peer) self.old }
     {
-        self.at_hand = None;
-        if let Some(was) = self.entries.remove(&peer) {
-            requeue(&mut self.tickets, peer, was.moment(), None);
-        }
+        let from = moment_of(&self.entries, peer);
+        self.entries.remove(peer);
+        requeue(&mut self.tickets, peer, from, None);
     }
 
     /// The first peer of which something is kept.
     pub fn first_peer(&self) -> Option<Peer>
         ensures { result ≡ slice_get (keys_of self.now) 0 }
     {
-        match self.entries.first_key_value() {
-            Some((peer, _)) => Some(*peer),
-            None => None,
-        }
+        self.entries.peer(0)
     }
 
     /// The first one after this.
     pub fn peer_after(&self, peer: Peer) -> Option<Peer>
         ensures { result ≡ peer_after peer (keys_of self.now) }
     {
-        let later = (Bound::Excluded(peer), Bound::Unbounded);
-        match self.entries.range(later).next() {
-            Some((next, _)) => Some(*next),
-            None => None,
-        }
+        self.entries.peer_after(peer)
     }
 
     /// For how many peers something is kept.

@@ -11,6 +11,6 @@ shown now P held (Some end) is holds = subst (λ (x : Option FlowEnd). IfSome x 
 
 pub returns-clause-stands : goal.returns-clause-stands
 returns-clause-stands c =
-    shown (λ end. end.now) (IsFlowOf c.args.self.now.config c.args.peer) _ c.end.result c.end.ensures
+    shown (λ end. end.now) (IsFlowOf c.args.self.now.config c.args.peer) _ c.get.result c.get.ensures
     (subst (λ (l : ListenerState). IfSome (end_of_peer c.self.inside.flows c.args.peer) (IsFlowOf l.config c.args.peer)) c.self.view_is
     (c.self.invariant.stand c.args.peer))
