@@ -1,7 +1,7 @@
 //! The functions of a listener that C calls: each does one thing with the listener that its handle holds.
-ghost use Rattle.std.specs.Prelude.{◌≡◌, ◌==◌, ◌≤◌, IfOk, None, Ok, Some, OnErr, OnOk, false, if◌then◌else◌, is_some, length, true, unwrap_or};
+ghost use Rattle.std.specs.Prelude.{◌≡◌, ◌==◌, ◌≤◌, IfErr, IfOk, None, Ok, Some, OnErr, OnOk, false, if◌then◌else◌, is_some, length, true, unwrap_or};
 ghost use Rattle.dccp_listener.specs.Calls.{seen_if};
-ghost use Rattle.dccp_listener.specs.Chain.{Aborts, Calls, Closes, Fires, asked};
+ghost use Rattle.dccp_listener.specs.Chain.{Aborts, Calls, Closes, Fires, Sends, asked};
 ghost use Rattle.dccp_listener.specs.Listens.{listens};
 ghost use Rattle.dccp_listener.specs.Runs.{Stepped};
 ghost use Rattle.std.specs.Option.{option_map};
@@ -18,6 +18,7 @@ ghost use Rattle.server_peers.specs.Lives.{life_of};
 ghost use Rattle.dccp_server.specs.Refusals.{refused_frame};
 ghost use Rattle.dccp_server.specs.Meeting.{IsMet, may_meet};
 ghost use Rattle.dccp_server.specs.Rooms.{duty_frame, duty_in};
+ghost use Rattle.dccp_server.specs.Serving.{flow_restraint};
 ghost use Rattle.server_peers.specs.Strangers.{told_of_arrival};
 ghost use Rattle.dccp_c.specs.Seeing.{if_sized, sized_code};
 ghost use Rattle.dccp_c.specs.Codes.{timer_coded};
@@ -459,20 +460,27 @@ pub(crate) fn call(
     call_code(&answer)
 }
 
-// Why data to a peer have to wait for the application that reads them, or None if they need not.
-fn held_back(listener: &mut ListenerHandle, alloc: Global, peer: Peer) -> Option<Restraint>
-    ensures listener { listener.new.kept.value ≡ listener.old.kept.value }
-    ensures why { result ≡ restraint_in (served_in listener.old.kept.value) peer }
+// Data to a peer, at a server.
+fn send(
+    serving: &mut OwnedServer,
+    peer: Peer,
+    payload: &[u8],
+    now: u64,
+) -> Result<Result<Seen, NoFlow>, Restraint>
+    ensures held { IfErr result (λ why. flow_restraint serving.old.server.server.room.served peer ≡ Some why) }
+    ensures unchanged { OnErr result ((holding_of serving.new ≡ holding_of serving.old) × (serving.new.out ≡ None)) }
+    ensures free { OnOk result (flow_restraint serving.old.server.server.room.served peer ≡ None) }
+    ensures after { OnOk result (holding_of serving.new ≡ holds_called now (holding_of serving.old) peer (Sends payload.now)) }
+    ensures sent { OnOk result (serving.new.out ≡ flow_speaks serving.new.inboxes serving.new.server.server peer (listens serving.old.server.server.room.served.listening peer (Calls (Sends payload.now))).frame) }
+    ensures told { IfOk result (λ answer. Stepped (seen_if answer) ≡ (listens serving.old.server.server.room.served.listening peer (Calls (Sends payload.now))).told) }
 {
-    let Some(serving) = listener.take(alloc) else {
-        return None;
-    };
-    let why = serving.server.server().restraint(peer);
-    listener.put(serving);
-    why
+    serving.server.seek(peer);
+    let answer = serving.server.send(peer, payload, now, &mut serving.out)?;
+    go_on(serving, peer);
+    Ok(answer)
 }
 
-/// `Server::ask` with `UserCall::Send`, unless `Server::restraint` holds the data back. Returns DONE, NOT_MADE,
+/// `Server::send`. Returns DONE, NOT_MADE,
 /// NOT_LISTENING, NO_FLOW, NOT_OPEN, TOO_LONG, NOT_NEGOTIATED or WINDOW_FULL.
 #[unsafe(no_mangle)]
 pub extern "C" fn dccp_listener_send(
@@ -486,11 +494,17 @@ pub extern "C" fn dccp_listener_send(
     ensures { SendsUnheld now (holding_in listener.old.kept.value) (holding_in listener.new.kept.value) (peer_named peer.now) payload.now (handed_in frame.new) result (restraint_in (served_in listener.old.kept.value) (peer_named peer.now)) }
 {
     let peer = peer_named(peer);
-    if let Some(why) = held_back(listener, alloc, peer) {
-        frame.clear();
-        return restraint_code(&why);
+    frame.clear();
+    let Some(mut serving) = listener.take(alloc) else {
+        return NOT_MADE;
+    };
+    let answer = send(&mut serving, peer, payload, now);
+    frame.fill(&serving.out);
+    listener.put(serving);
+    match answer {
+        Ok(answer) => call_code(&answer),
+        Err(why) => restraint_code(&why),
     }
-    call(listener, alloc, peer, UserCall::Send(payload), now, frame)
 }
 
 /// `Server::ask` with `UserCall::Close`. Returns DONE, NOT_MADE, NO_FLOW or NOT_OPEN.

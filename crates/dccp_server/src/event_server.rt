@@ -8,7 +8,7 @@ use crate::meeting::{Meeting, Way};
 use crate::server::Server;
 use dccp_endpoint::{DecodedDatagram, Outbox, ResetCode, Seen, Seq48, UserCall};
 use dccp_listener::{ListenConfig, NoFlow, Peer};
-use dccp_uses::Pace;
+use dccp_uses::{Pace, Restraint};
 use init_cookies::FirstRequest;
 use server_peers::{
     CookieUse, EndCause, EndReason, EventKind, FlowEvent, FlowEvents, FlowState, Life, Rules,
@@ -149,9 +149,9 @@ impl Model for EventServer {
 }
 
 impl EventServer {
-    ghost use Rattle.std.specs.Prelude.{◌≡◌, ◌≤◌, ◌↔◌, IfOk, IsErr, None, Some, OnErr, OnOk, false, is_some, length, true};
+    ghost use Rattle.std.specs.Prelude.{◌≡◌, ◌≤◌, ◌↔◌, IfErr, IfOk, IsErr, None, Some, OnErr, OnOk, false, is_some, length, true};
     ghost use Rattle.dccp_listener.specs.Calls.{seen_if};
-    ghost use Rattle.dccp_listener.specs.Chain.{Calls, asked};
+    ghost use Rattle.dccp_listener.specs.Chain.{Calls, Sends, asked};
     ghost use Rattle.dccp_listener.specs.Listens.{listens};
     ghost use Rattle.dccp_listener.specs.Peers.{end_of_peer};
     ghost use Rattle.dccp_listener.specs.Runs.{Stepped};
@@ -166,7 +166,7 @@ impl EventServer {
     ghost use Rattle.server_peers.specs.Refusals.{flow_asked};
     ghost use Rattle.dccp_server.specs.Rooms.{duty_done, duty_frame, duty_in, forgets, room_does, ruled_begins, with_user};
     ghost use Rattle.server_peers.specs.Strangers.{told_of_arrival};
-    ghost use Rattle.dccp_server.specs.Serving.{Does};
+    ghost use Rattle.dccp_server.specs.Serving.{Does, flow_restraint};
     ghost use Rattle.server_peers.specs.declared.flow_event.EndCause.TheVariants as causes;
 
     /// A server without flows, as `Server::new` makes it. It takes no memory.
@@ -329,6 +329,28 @@ impl EventServer {
         let answer = self.server.ask(peer, call, now, out);
         self.tell(peer, was, aborted_end(EndCause::Own));
         answer
+    }
+
+    /// `Server::send`, with its events. If the data have to wait, the events of the call before it stay.
+    pub fn send(
+        &mut self,
+        peer: Peer,
+        payload: &[u8],
+        now: u64,
+        out: &mut Outbox,
+    ) -> Result<Result<Seen, NoFlow>, Restraint>
+        ensures held { IfErr result (λ why. flow_restraint self.old.server.room.served peer ≡ Some why) }
+        ensures unchanged { OnErr result ((self.new ≡ self.old) × (out.new ≡ None)) }
+        ensures free { OnOk result (flow_restraint self.old.server.room.served peer ≡ None) }
+        ensures after { OnOk result (self.new ≡ called_on self.old (record self.old.server { room = room_does now self.old.server.room peer (Does (Calls (Sends payload.now))) }) peer (aborted_end causes.Own)) }
+        ensures sent { OnOk result (out.new ≡ (listens self.old.server.room.served.listening peer (Calls (Sends payload.now))).frame) }
+        ensures told { IfOk result (λ answer. Stepped (seen_if answer) ≡ (listens self.old.server.room.served.listening peer (Calls (Sends payload.now))).told) }
+    {
+        if let Some(why) = self.server.restraint(peer) {
+            out.clear();
+            return Err(why);
+        }
+        Ok(self.ask(peer, UserCall::Send(payload), now, out))
     }
 
     // Lists the events of a peer's flow, of which the owner saw `was` before.

@@ -49,10 +49,10 @@ impl Model for Server {
 
 impl Server {
     ghost use Rattle.std.specs.Option.{option_map};
-    ghost use Rattle.std.specs.Prelude.{◌≡◌, ◌≤◌, ◌↔◌, IfOk, IsErr, MatchOption, OnErr, None, Some, if◌then◌else◌, is_some, length, slice_get, true};
+    ghost use Rattle.std.specs.Prelude.{◌≡◌, ◌≤◌, ◌↔◌, IfErr, IfOk, IsErr, MatchOption, OnErr, OnOk, None, Some, if◌then◌else◌, is_some, length, slice_get, true};
     ghost use Rattle.std.specs.Map.{keys_of};
     ghost use Rattle.dccp_listener.specs.Calls.{reset_for, seen_if};
-    ghost use Rattle.dccp_listener.specs.Chain.{Calls, asked, config_for};
+    ghost use Rattle.dccp_listener.specs.Chain.{Calls, Sends, asked, config_for};
     ghost use Rattle.dccp_listener.specs.Listens.{listens, is_table_full};
     ghost use Rattle.dccp_listener.specs.Peers.{end_of_peer};
     ghost use Rattle.dccp_listener.specs.Runs.{Stepped};
@@ -463,6 +463,29 @@ impl Server {
         ask(&mut self.timed, &mut self.lives, peer, call, now, out)
     }
 
+    /// Sends data to a peer: `ask` with `UserCall::Send`. They have to wait exactly if there is a `restraint`: then Err
+    /// has it, nothing changes, and nothing goes out.
+    pub fn send(
+        &mut self,
+        peer: Peer,
+        payload: &[u8],
+        now: u64,
+        out: &mut Outbox,
+    ) -> Result<Result<Seen, NoFlow>, Restraint>
+        ensures held { IfErr result (λ why. flow_restraint self.old.room.served peer ≡ Some why) }
+        ensures unchanged { OnErr result ((self.new ≡ self.old) × (out.new ≡ None)) }
+        ensures free { OnOk result (flow_restraint self.old.room.served peer ≡ None) }
+        ensures after { OnOk result (self.new ≡ record self.old { room = room_does now self.old.room peer (Does (Calls (Sends payload.now))) }) }
+        ensures sent { OnOk result (out.new ≡ (listens self.old.room.served.listening peer (Calls (Sends payload.now))).frame) }
+        ensures told { IfOk result (λ answer. Stepped (seen_if answer) ≡ (listens self.old.room.served.listening peer (Calls (Sends payload.now))).told) }
+    {
+        if let Some(why) = self.restraint(peer) {
+            out.clear();
+            return Err(why);
+        }
+        Ok(self.ask(peer, UserCall::Send(payload), now, out))
+    }
+
     /// Ends a peer's flow at once, whatever its phase, and sends nothing.
     pub fn forget(&mut self, peer: Peer, now: u64, out: &mut Outbox)
         ensures after { self.new ≡ record self.old { room = forgets now self.old.room peer } }
@@ -597,7 +620,7 @@ impl Server {
     }
 
     /// Why data to a peer have to wait for the application that reads them (RFC 4340, sections 11.6 and 11.7). None if
-    /// they need not, and also if it has no flow. Check this before each send: `ask` does not.
+    /// they need not, and also if it has no flow. `send` heeds it, and `ask` does not.
     pub fn restraint(&self, peer: Peer) -> Option<Restraint>
         ensures { result ≡ flow_restraint self.now.room.served peer }
     {
