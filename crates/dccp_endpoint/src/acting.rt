@@ -1,40 +1,9 @@
 //! Any call of the end, handed in as one value.
 ghost use Rattle.std.specs.Prelude.{◌≡◌};
-ghost use Rattle.dccp_endpoint.specs.UserCalls.{call_step, seen_of_call};
-ghost use Rattle.dccp_states.specs.Refusals.{refusal_of, send_refusal_of};
+ghost use Rattle.dccp_endpoint.specs.UserCalls.{call_step};
 
-use crate::{Endpoint, Outbox, PreferFault, Refusal, Seen, SendFault, UserCall};
+use crate::{Endpoint, Outbox, Refusal, Seen, UserCall};
 use congestion_trait::Congestion;
-
-// The answer to `send` as a `Seen`.
-fn seen_sent(answered: Result<(), SendFault>) -> Seen
-    ensures { result ≡ seen_of_call send_refusal_of answered }
-{
-    match answered {
-        Ok(()) => Seen::Called(Ok(())),
-        Err(fault) => Seen::Called(Err(Refusal::from(fault))),
-    }
-}
-
-// The answer to `prefer` as a `Seen`.
-fn seen_preferred(answered: Result<(), PreferFault>) -> Seen
-    ensures { result ≡ seen_of_call refusal_of answered }
-{
-    match answered {
-        Ok(()) => Seen::Called(Ok(())),
-        Err(fault) => Seen::Called(Err(Refusal::from(fault))),
-    }
-}
-
-// The answer to a call with one refusal as a `Seen`.
-fn seen_called<F: Copy>(answered: Result<(), F>, refusal: Refusal) -> Seen
-    ensures { result ≡ seen_of_call (λ fault. refusal) answered }
-{
-    match answered {
-        Ok(()) => Seen::Called(Ok(())),
-        Err(_) => Seen::Called(Err(refusal)),
-    }
-}
 
 impl<C: Congestion> Endpoint<C> {
     /// Makes the call that a value names, exactly as that call does (own). The answer says whether a timer applied, or
@@ -44,16 +13,25 @@ impl<C: Congestion> Endpoint<C> {
         ensures { record { after = self.new; frame = out.new; answer = result } ≡ call_step C.control self.old call.entry }
     {
         match call {
-            UserCall::Open => seen_called(self.open(out), Refusal::NotFresh),
-            UserCall::Send(payload) => seen_sent(self.send(payload, out)),
-            UserCall::SendEarly(payload) => seen_sent(self.send_early(payload, out)),
+            UserCall::Open => Seen::Called(self.open(out).map_err(|_| Refusal::NotFresh)),
+            UserCall::Send(payload) => Seen::Called(
+                self.send(payload, out)
+                    .map_err(|fault| Refusal::from(fault)),
+            ),
+            UserCall::SendEarly(payload) => Seen::Called(
+                self.send_early(payload, out)
+                    .map_err(|fault| Refusal::from(fault)),
+            ),
             UserCall::Prefer {
                 feature,
                 place,
                 values,
-            } => seen_preferred(self.prefer(feature, place, values, out)),
-            UserCall::Close => seen_called(self.close(out), Refusal::NotOpen),
-            UserCall::Abort => seen_called(self.abort(out), Refusal::NotLive),
+            } => Seen::Called(
+                self.prefer(feature, place, values, out)
+                    .map_err(|fault| Refusal::from(fault)),
+            ),
+            UserCall::Close => Seen::Called(self.close(out).map_err(|_| Refusal::NotOpen)),
+            UserCall::Abort => Seen::Called(self.abort(out).map_err(|_| Refusal::NotLive)),
             UserCall::Timer(timer) => Seen::Fired(self.timer(timer, out)),
         }
     }

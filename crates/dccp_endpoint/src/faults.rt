@@ -45,35 +45,13 @@ pub(crate) fn mandatory_fault() -> Fault
 pub(crate) fn counts(phase: Phase, kind: PacketType) -> bool
     ensures { result ≡ counts phase kind }
 {
-    match (phase, kind) {
-        (Phase::Request, PacketType::Response) => true,
-        (
-            Phase::Respond | Phase::PartOpen | Phase::Open,
-            PacketType::Request
-            | PacketType::Response
-            | PacketType::Ack
-            | PacketType::DataAck
-            | PacketType::Sync
-            | PacketType::SyncAck,
-        ) => true,
-        (
-            Phase::Request,
-            PacketType::Request
-            | PacketType::Data
-            | PacketType::Ack
-            | PacketType::DataAck
-            | PacketType::CloseReq
-            | PacketType::Close
-            | PacketType::Reset
-            | PacketType::Sync
-            | PacketType::SyncAck,
-        )
-        | (
-            Phase::Respond | Phase::PartOpen | Phase::Open,
-            PacketType::Data | PacketType::CloseReq | PacketType::Close | PacketType::Reset,
-        )
-        | (Phase::Closed | Phase::Listen | Phase::CloseReq | Phase::Closing | Phase::TimeWait, _) =>
-            false,
+    match phase {
+        Phase::Request => matches!(kind, PacketType::Response),
+        Phase::Respond | Phase::PartOpen | Phase::Open => !matches!(
+            kind,
+            PacketType::Data | PacketType::CloseReq | PacketType::Close | PacketType::Reset
+        ),
+        Phase::Closed | Phase::Listen | Phase::CloseReq | Phase::Closing | Phase::TimeWait => false,
     }
 }
 

@@ -183,10 +183,8 @@ impl Connection {
     fn reset(&mut self, ack: Seq48, fault: Fault, out: &mut Outbox) -> Outcome
         ensures { record { after = self.new; frame = out.new; calls = []; answer = result } ≡ resets self.old ack fault }
     {
-        let code = fault.code;
-        let detail = [fault.first, fault.second, fault.third];
-        self.send(Kind::Reset { ack, code, detail }, out);
-        Outcome::SentReset { code, detail }
+        let number = self.take_number();
+        put_reset(&self.config, number, ack, fault, out)
     }
 
     // A Reset without a connection takes its numbers from the packet, and the end is unchanged (own).

@@ -368,7 +368,7 @@ impl Connection {
     }
 
     // The next number, which is then the greatest sent.
-    fn take_number(&mut self) -> Seq48
+    pub(crate) fn take_number(&mut self) -> Seq48
         ensures counted { self.new ≡ with_next_number self.old }
         ensures number { result ≡ next_number self.old }
     {
