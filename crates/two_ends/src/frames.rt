@@ -62,8 +62,12 @@ pub(crate) fn take_memory(frames: &mut Vec<SentFrame>, spare: &mut Vec<u8>) -> R
     ensures place { OnOk result (HasPlace frames.new) }
     ensures room { OnOk result (HasRoomForFrame spare.new) }
 {
-    frames.reserve(1)?;
-    spare.reserve(MOST_FRAME_BYTES)?;
+    if frames.len() == frames.capacity() {
+        frames.reserve(1)?;
+    }
+    if spare.capacity() < MOST_FRAME_BYTES {
+        spare.reserve(MOST_FRAME_BYTES)?;
+    }
     Ok(())
 }
 

@@ -121,14 +121,18 @@ impl<C: Congestion> HalfWorld<C> {
         Ok(seen)
     }
 
-    // A frame of the other side arrives, whose number in full this is.
+    // A frame of the other side arrives, whose number in full this is. All is inlined except the step of the end, so
+    // that its outcome is not copied from call to call.
+    #[inline(always)]
     pub(crate) fn receive(&mut self, bytes: &[u8], number: Seq48) -> Result<Seen, NoMemory>
         requires { length bytes.now ≤ 2044 }
         ensures ok { IfOk result (λ seen. record { after = self.new; seen = seen } ≡ controlled_half_steps C.control self.old (Some number) (Arrives bytes.now)) }
         ensures err { OnErr result (self.new ≡ self.old) }
     {
         take_memory(&mut self.frames, &mut self.spare)?;
-        self.processed.reserve(1)?;
+        if self.processed.len() == self.processed.capacity() {
+            self.processed.reserve(1)?;
+        }
         let before = self.end.marked();
         let outcome = arrive(&mut self.end, bytes, &mut self.out);
         let taken = before < self.end.marked();
@@ -159,6 +163,7 @@ fn act<C: Congestion>(end: &mut Endpoint<C>, call: UserCall<'_>, out: &mut Outbo
 
 // Keeps the number of a packet that was taken, in memory that was taken before.
 #[tactic(auto, using(crate::proofs::OfWorlds::Processing::nothing_more))]
+#[inline(always)]
 fn keep_number(processed: &mut Vec<u64>, taken: bool, number: Seq48)
     requires { HasPlace processed.old }
     ensures { processed.new.items ≡ processed.old.items ++ number_if taken (Some number) }
@@ -173,6 +178,7 @@ fn keep_number(processed: &mut Vec<u64>, taken: bool, number: Seq48)
 }
 
 // Only the step of the end.
+#[inline(always)]
 fn arrive<C: Congestion>(end: &mut Endpoint<C>, bytes: &[u8], out: &mut Outbox) -> Outcome
     requires { length bytes.now ≤ 2044 }
     ensures { record { after = end.new; frame = out.new; answer = result } ≡ with_control C.control end.old.congestion (receives end.old.state bytes.now) }
