@@ -6,3 +6,4 @@ pub mod ReadBack
 pub mod ReadVectors
 pub mod Sizes
 pub mod States
+mod VectorPlaces

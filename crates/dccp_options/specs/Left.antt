@@ -5,7 +5,7 @@ use Rattle.dccp_options.specs.declared.option.OptFault.{OptFault}
 use Rattle.dccp_options.specs.declared.cursor.RawOpt.{RawOpt}
 use Rattle.dccp_options.specs.declared.cursor.Cursor.{Cursor}
 use Rattle.dccp_options.specs.declared.joined.JoinedBytes.{JoinedBytes}
-use Rattle.dccp_options.specs.Grammar.{Entry, RawOption, raw_options, counted_options, marked_entries}
+use Rattle.dccp_options.specs.Grammar.{Entry, RawOption, raw_options, counted_options, marked_entries, options_of}
 use Rattle.dccp_options.specs.Vectors.{vector_bytes}
 
 -- an option without its borrow
@@ -36,4 +36,4 @@ entries_left marked cursor = marked_entries marked (counted_left cursor)
 
 -- the bytes of Ack Vectors that are left
 abbrev pub bytes_left : JoinedBytes → List ℕ
-bytes_left joined = joined.vector.now ++ vector_bytes (entries_left false joined.options)
+bytes_left joined = joined.vector.now ++ vector_bytes (options_of joined.area.now false)

@@ -31,8 +31,10 @@ fn split_counted(rest: &[u8]) -> Option<(&[u8], &[u8])>
         × (parts.1.now ≡ drop (length parts.0.now + 1) rest.now)) }
 {
     let (count, data) = rest.split_first()?;
-    let length = usize::from(*count).checked_sub(2)?;
-    data.split_at_checked(length)
+    if *count < 2 {
+        return None;
+    }
+    data.split_at_checked(usize::from(*count) - 2)
 }
 
 // The data of the option of this type, and what follows it.
@@ -50,7 +52,9 @@ fn split_option(kind: u8, rest: &[u8]) -> Option<(&[u8], &[u8])>
 }
 
 impl<'a> Cursor<'a> {
+    ghost use Rattle.dccp_options.specs.Grammar.{options_of};
     ghost use Rattle.dccp_options.specs.Left.{raw_of, item_of, raws_left, counted_left, entries_left};
+    ghost use Rattle.dccp_options.specs.Vectors.{ack_vectors};
 
     /// At the beginning of an area of at most 1,008 bytes.
     pub(crate) fn new(area: &'a [u8], on_data: bool) -> Cursor<'a>
@@ -62,6 +66,15 @@ impl<'a> Cursor<'a> {
             place: 0,
             on_data,
         }
+    }
+
+    /// An area that has the Ack Vectors which are left: what is left, or nothing on a Data packet, which ignores them.
+    #[tactic(auto, using(crate::proofs::VectorPlaces::vectors_anywhere, crate::proofs::VectorPlaces::none_on_data))]
+    pub(crate) fn vectors(self) -> &'a [u8]
+        ensures vectors { ack_vectors (options_of result.now false) ≡ ack_vectors (entries_left false self.entry) }
+        ensures fits { length result.now ≤ 1008 }
+    {
+        if self.on_data { &[] } else { self.rest }
     }
 
     // The next option as it is in the area. One whose length is wrong ends the area.

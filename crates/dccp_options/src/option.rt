@@ -1,8 +1,9 @@
 //! An option of a packet, and what can be wrong with a list of them.
 ghost use Rattle.std.specs.Prelude.{◌≡◌, length};
 ghost use Rattle.dccp_options.specs.Kinds as spec;
+ghost use Rattle.dccp_options.specs.Vectors.{is_ack_vector};
 
-use crate::kinds::is_understood;
+use crate::kinds::{is_ack_vector, is_understood};
 
 /// The most bytes of data that an option has: its length counts its type and itself too (RFC 4340, section 5.8).
 pub const MOST_OPTION_BYTES: usize = 253;
@@ -27,6 +28,13 @@ impl<'a> Opt<'a> {
         ensures { result ≡ spec.is_understood self.now.kind (length self.now.body.now) }
     {
         is_understood(self.kind, self.body.len())
+    }
+
+    /// Whether the option is an Ack Vector, with nonce 0 or 1 (RFC 4340, section 11.4).
+    pub fn is_ack_vector(&self) -> bool
+        ensures { result ≡ is_ack_vector self.now.kind }
+    {
+        is_ack_vector(self.kind)
     }
 }
 

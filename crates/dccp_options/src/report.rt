@@ -1,6 +1,6 @@
 //! What the Ack Vectors of a packet report.
-ghost use Rattle.std.specs.Prelude.{◌≡◌, ◌^◌, ◌≤◌, ◌↔◌, ◌<◌, ◌++◌, ℕ, List, [], length, IsNone};
-ghost use Rattle.dccp_options.specs.Vectors.{ack_vectors, report_of, state_of, run_length, states, state_at, runs_of, HavePassed};
+ghost use Rattle.std.specs.Prelude.{◌≡◌, ◌^◌, ◌≤◌, ◌↔◌, ◌<◌, ◌+◌, ◌++◌, ℕ, List, [], length, IsNone};
+ghost use Rattle.dccp_options.specs.Vectors.{ack_vectors, report_of, state_of, run_length, states, state_at, runs_of, vector_bytes, HavePassed};
 
 use crate::joined::JoinedBytes;
 use crate::list::OptList;
@@ -102,6 +102,18 @@ impl<'a> AckReport<'a> {
     {
         let bytes = JoinedBytes::of(options.cursor())?;
         Some(AckReport { ack, bytes })
+    }
+
+    /// The same for a reader that has come to the first Ack Vector: `vector` is its data, and `following` are the
+    /// options after it. Together the vectors have at most the 1,008 bytes of an area.
+    pub fn from_first(ack: Seq48, vector: &'a [u8], following: OptList<'a>) -> AckReport<'a>
+        requires { length vector.now + length (vector_bytes following) ≤ 1008 }
+        ensures { result ≡ record { ack = ack; bytes = vector.now ++ vector_bytes following.entry } }
+    {
+        AckReport {
+            ack,
+            bytes: JoinedBytes::from_first(vector, following.cursor()),
+        }
     }
 
     /// The state of the number, or None if the vectors do not reach it: 0 received, 1 received ECN marked, 3 not yet
