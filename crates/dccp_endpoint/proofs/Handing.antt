@@ -1,5 +1,9 @@
 -- What is handed to the congestion control, in order; and the values that go with it fit.
-use Rattle.std.proofs.Common.{◌≡◌, ◌<◌, ◌^◌, ◌++◌, ℕ, true, List, [], refl, sym, ap, ◌∙◌, subst, append-nil, eq-eqb}
+use Rattle.std.proofs.Common.{◌≡◌, ◌<◌, ◌≤◌, ◌+◌, ◌^◌, ◌++◌, ℕ, Bool, true, false, List, [], Some, length, refl, sym, ap, ◌∙◌, subst, append-nil, eq-eqb, arith, length-append}
+use Rattle.std.specs.List.{concat}
+use Rattle.dccp_options.proofs.Sizes.{vector_bytes_fit}
+use Rattle.dccp_options.specs.Grammar.{options_of}
+use Rattle.dccp_options.specs.Vectors.{vector_bytes}
 use Rattle.congestion_trait.specs.Calls.{Call}
 use Rattle.congestion_trait.specs.Control.{Control}
 use Rattle.feature_lists.specs.Features.{described}
@@ -16,7 +20,9 @@ use Rattle.dccp_endpoint.specs.Congesting.{calls_for, report_calls, reported_fro
 use Rattle.dccp_endpoint.specs.Controlled.{EndStep, after_calls, with_control}
 use Rattle.dccp_endpoint.specs.End.{value_in}
 use Rattle.dccp_endpoint.specs.Incoming.{Incoming}
+use Rattle.dccp_endpoint.specs.Silent.{IsFirstOf}
 use Rattle.dccp_endpoint.specs.Steps.{Step, with_calls}
+use Rattle.dccp_endpoint.specs.declared.heeding.FirstVector.{FirstVector}
 
 -- the value of a row fits the bytes of its feature
 held_fits : (feature : Feature) (place : Place) (held : Held) (row : Row) → held ≡ held_by row → IsRowOf feature place row
@@ -45,6 +51,17 @@ pub due_where_rows_stay : (a : Incoming) (rows : List Row)
 due_where_rows_stay a rows =
     let calls = report_calls (reported_from a.kind a.ack) a.options (value_in rows AckRatio Here) in
     sym (append-nil calls) ∙ ap (λ (more : List Call). calls ++ more) (sym (starts_nothing (value_in rows Ccid Here)))
+
+-- the first vector and those after it fit the area that has them
+pub first_fits : (first : FirstVector) (area : List ℕ) (on_data : Bool) → length area ≤ 1008 → IsFirstOf (Some first) [] (options_of area on_data)
+    → length first.data.now + length (vector_bytes first.following) ≤ 1008
+first_fits first area on_data short is =
+    omega (
+      arith,
+      vector_bytes_fit false on_data 0 area,
+      ap (λ (vectors : List (List ℕ)). length (concat vectors)) is,
+      length-append first.data.now (vector_bytes first.following),
+    )
 
 module _ {C EndAnswer : Type 0} (control : Control C) (old : C) where
   -- a step beside a congestion control

@@ -3,7 +3,7 @@
 --
 -- `heeds` is a fold over the list of options. `heard_turns` is what each row hears, so that an effect can speak of rows without the packet's
 -- other options.
-use Rattle.std.specs.Prelude.{◌==◌, ◌&&◌, ◌||◌, not, nat_le, nat_lt, if◌then◌else◌, ℕ, ◌+◌, ◌*◌, Bool, true, false, List, [], ◌∷◌, ◌++◌, length, replicate, slice_index, slice_index_or, slice_set, Option, Some, None, Result, Ok, Err}
+use Rattle.std.specs.Prelude.{◌≡◌, ◌==◌, ◌&&◌, ◌||◌, not, nat_le, nat_lt, if◌then◌else◌, ℕ, ◌+◌, ◌*◌, Bool, true, false, List, [], ◌∷◌, ◌++◌, length, replicate, slice_index, slice_index_or, slice_set, Option, Some, None, Result, Ok, Err}
 use Rattle.dccp_options.specs.Grammar.{Entry}
 use Rattle.dccp_options.specs.Kinds as options
 use Rattle.dccp_options.specs.Kinds.{is_understood}
@@ -43,9 +43,23 @@ pub record ReadingState : Type 0 where
   pub changes : ℕ
   pub confirms : List DueConfirm
 
+-- The same without the rows, which turn where the end has them.
+pub record ReadingNotes : Type 0 where
+  pub used : List Bool
+  pub changes : ℕ
+  pub confirms : List DueConfirm
+
+-- rows, and what was noted beside them
+abbrev pub read_beside : List Row → ReadingNotes → ReadingState
+read_beside rows notes = record { rows = rows; used = notes.used; changes = notes.changes; confirms = notes.confirms }
+
 -- nothing was read yet
 abbrev pub unheeded : List Row → ReadingState
 unheeded rows = record { rows = rows; used = replicate 512 false; changes = 0; confirms = [] }
+
+-- nothing was noted yet: whatever the rows, nothing was read
+abbrev pub AreBlank : ReadingNotes → Type 0
+AreBlank notes = (rows : List Row) → read_beside rows notes ≡ unheeded rows
 
 -- the place of a feature number and L or R among 512
 abbrev pub place_in_used : Bool → ℕ → ℕ
@@ -77,6 +91,11 @@ counted changes false = changes
 abbrev pub met : ReadingState → ℕ → Bool → List Row → List DueConfirm → ReadingState
 met h place change rows confirms =
     record { rows = rows; used = slice_set h.used place true; changes = counted h.changes change; confirms = confirms }
+
+-- the same of what was noted beside the rows
+abbrev pub met_beside : ReadingNotes → ℕ → Bool → List DueConfirm → ReadingNotes
+met_beside notes place change confirms =
+    record { used = slice_set notes.used place true; changes = counted notes.changes change; confirms = confirms }
 
 -- a Change, by what its row answers
 abbrev pub by_answered : ReadingState → ℕ → List Row → Entry → ChangeAnswer → Result ReadingState Fault

@@ -7,6 +7,7 @@ pub mod Faults
 pub mod Drafts
 pub mod Turns
 pub mod Heeding
+pub mod Silent
 pub mod ShortForm
 pub mod NearWindows
 pub mod Steps

@@ -117,13 +117,4 @@ impl Connection {
     {
         &self.rows
     }
-
-    // The rows are these from now on, and the windows as wide as they say.
-    fn store(&mut self, rows: &Negotiation)
-        requires { AreRowsOf (end_of self.old.config.role) rows.now }
-        ensures { self.new ≡ with_rows self.old rows.now }
-    {
-        fit(&mut self.marks, rows);
-        self.rows = *rows;
-    }
 }

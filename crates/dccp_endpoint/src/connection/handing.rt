@@ -1,11 +1,14 @@
 //! What an end hands to its congestion control (RFC 4340, sections 10 and 11.4).
-ghost use Rattle.std.specs.Prelude.{◌≡◌};
+ghost use Rattle.std.specs.Prelude.{◌≡◌, ℕ, [], Option, Ok, true, false};
 ghost use Rattle.feature_lists.specs.declared.features.Feature.TheVariants as feature;
 ghost use Rattle.feature_lists.specs.declared.features.Place.TheVariants as place;
 ghost use Rattle.dccp_endpoint.specs.Congesting.{calls_for, report_calls, reported_from, start_calls};
 ghost use Rattle.dccp_endpoint.specs.Controlled.{after_calls};
 ghost use Rattle.dccp_endpoint.specs.End.{value_in};
+ghost use Rattle.dccp_endpoint.specs.Heeding.{ReadingState, heeds};
+ghost use Rattle.dccp_endpoint.specs.Silent.{IsFirstOf};
 
+use crate::heeding::{FirstVector, silent_options};
 use crate::incoming::IncomingPacket;
 use congestion_trait::Congestion;
 use dccp_options::{AckReport, options};
@@ -86,13 +89,49 @@ pub(crate) fn hand_over<C: Congestion>(
     start(ccid(old), ccid(new), congestion);
 }
 
-// The same of a packet whose options say nothing to the rows: then no CCID changes.
-pub(crate) fn hand_over_report<C: Congestion>(
+// The report of a packet's Ack Vectors, if it has one, by the first of them, with the Ack Ratio of these rows.
+fn report_first<C: Congestion>(
     packet: &IncomingPacket<'_>,
+    first: Option<FirstVector<'_>>,
     rows: &Negotiation,
     congestion: &mut C,
 )
-    ensures { congestion.new ≡ after_calls C.control congestion.old (calls_for packet.now rows.now rows.now) }
+    requires { IsFirstOf first [] packet.now.options }
+    ensures { congestion.new ≡ after_calls C.control congestion.old
+        (report_calls (reported_from packet.now.kind packet.now.ack) packet.now.options (value_in rows.now feature.AckRatio place.Here)) }
 {
-    report(packet, rows, congestion);
+    // Gives the prover that the options fit their area.
+    let _options = packet.options;
+    let Some(first) = first else {
+        return;
+    };
+    if let Some(ack) = reported_from(packet) {
+        let report = AckReport::from_first(ack, first.data, first.following);
+        congestion.on_report(&report, ratio(rows));
+    }
+}
+
+// Hands over what is due for a packet whose options have no fault and say nothing to the rows, as is usual: then no CCID
+// changes. False if they have or say anything; then nothing is handed over.
+pub(crate) fn hand_over_silent<C: Congestion>(
+    packet: &IncomingPacket<'_>,
+    count: bool,
+    rows: &Negotiation,
+    congestion: &mut C,
+) -> bool
+    ensures silent { result ≡ true → (ack : Option ℕ) (heeding : ReadingState) → heeds count ack heeding packet.now.options ≡ Ok heeding }
+    ensures handed { result ≡ true → congestion.new ≡ after_calls C.control congestion.old (calls_for packet.now rows.now rows.now) }
+    ensures idle { result ≡ false → congestion.new ≡ congestion.old }
+{
+    // By two walks, each of which knows its kind of packet.
+    let found = if packet.kind.is_data() {
+        silent_options(packet.options, true, count)
+    } else {
+        silent_options(packet.options, false, count)
+    };
+    let Some(first) = found else {
+        return false;
+    };
+    report_first(packet, first, rows, congestion);
+    true
 }

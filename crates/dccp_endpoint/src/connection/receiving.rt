@@ -1,10 +1,10 @@
 //! What an end does with a packet that arrives: the sixteen steps of RFC 4340, section 8.5. `take_packet`, `take`,
 //! `take_steps`, `take_options`, `negotiate` and `process` list them, and each is a function, below or in `replying`.
-use super::Connection;
 use super::classes::{carries_data, is_acking, is_live, is_open};
-use super::handing::{hand_over, hand_over_report};
+use super::handing::{hand_over, hand_over_silent};
+use super::{Connection, fit};
 use crate::faults::heeds_negotiation;
-use crate::heeding::{Reading, are_silent, heed};
+use crate::heeding::{Reading, heed};
 use crate::incoming::IncomingPacket;
 use crate::speaking::DueConfirm;
 use crate::strangers::{is_of_connection, without_detail};
@@ -14,19 +14,20 @@ use dccp_packets::{Header, Number, Outbox, Packet, PacketType, ResetCode, decode
 use dccp_states::{Entrance, Phase, after, gate, unexpected};
 use dccp_sum::check;
 use feature_lists::{Feature, Place};
+use feature_machine::Negotiation;
 use run_list::Marked;
 use seq_circle::{Seq48, extend};
 use validity_windows::Verdict;
 
 impl Connection {
-    ghost use Rattle.std.specs.Prelude.{◌≡◌, ◌≤◌, [], None, Ok, true, length};
+    ghost use Rattle.std.specs.Prelude.{◌≡◌, ◌≤◌, [], None, Ok, Err, true, length, MatchResult};
     ghost use Rattle.dccp_states.specs.Entrance.{gate};
     ghost use Rattle.dccp_states.specs.Phases.{after};
     ghost use Rattle.dccp_states.specs.declared.phase.Phase.TheVariants as phase;
     ghost use Rattle.validity_windows.specs.Verdict.{verdict};
     ghost use Rattle.dccp_endpoint.specs.Controlled.{with_control};
-    ghost use Rattle.dccp_endpoint.specs.End.{IsPhaseOf, IsProper};
-    ghost use Rattle.dccp_endpoint.specs.Heeding.{heeding_or, unheeded};
+    ghost use Rattle.dccp_endpoint.specs.End.{IsPhaseOf, IsProper, with_rows};
+    ghost use Rattle.dccp_endpoint.specs.Heeding.{AreBlank, read_beside};
     ghost use Rattle.dccp_endpoint.specs.Speaking.{HaveRoom};
     ghost use Rattle.dccp_endpoint.specs.Incoming.{is_newest, parts_of_packet};
     ghost use Rattle.dccp_packets.specs.Grammar.{decoded};
@@ -115,10 +116,10 @@ impl Connection {
         ensures { record { after = record { state = self.new; congestion = congestion.new }; frame = out.new; answer = result }
             ≡ with_control C.control congestion.old (heeded self.old packet.now (reads_options self.old packet.now)) }
     {
-        if !self.is_silent(packet) {
+        let count = heeds_negotiation(packet.newest, self.phase, packet.kind);
+        if !hand_over_silent(packet, count, self.rows(), congestion) {
             return self.negotiate(packet, out, congestion);
         }
-        hand_over_report(packet, self.rows(), congestion);
         self.process(packet, &[], out)
     }
 
@@ -136,14 +137,48 @@ impl Connection {
         ensures { record { after = record { state = self.new; congestion = congestion.new }; frame = out.new; answer = result }
             ≡ with_control C.control congestion.old (heeded self.old packet.now (reads_options self.old packet.now)) }
     {
-        let mut reading = Reading::new(self.rows());
-        match self.read_options(packet, &mut reading) {
+        let old = *self.rows();
+        let mut reading = Reading::new();
+        match self.heed_options(packet, &old, &mut reading) {
             Ok(()) => {
-                hand_over(packet, self.rows(), reading.rows(), congestion);
-                self.store(reading.rows());
+                hand_over(packet, &old, self.rows(), congestion);
                 self.process(packet, reading.confirms(), out)
             }
             Err(fault) => self.leave(packet, Exit::Shut(fault), out),
+        }
+    }
+
+    // The rows hear the options, and the windows become as wide as the rows say. A fault puts the old rows back.
+    fn heed_options(
+        &mut self,
+        packet: &IncomingPacket<'_>,
+        old: &Negotiation,
+        reading: &mut Reading,
+    ) -> Result<(), Fault>
+        requires blank { AreBlank reading.old }
+        requires old { old.now ≡ self.old.rows }
+        ensures { MatchResult result
+            (λ _. (reads_options self.old packet.now ≡ Ok (read_beside self.new.rows reading.new)) × (self.new ≡ with_rows self.old self.new.rows))
+            (λ fault. (reads_options self.old packet.now ≡ Err fault) × (self.new ≡ self.old)) }
+    {
+        let count = heeds_negotiation(packet.newest, self.phase, packet.kind);
+        let on_data = packet.kind.is_data();
+        match heed(
+            &mut self.rows,
+            reading,
+            packet.options,
+            on_data,
+            count,
+            &packet.ack,
+        ) {
+            Ok(()) => {
+                fit(&mut self.marks, &self.rows);
+                Ok(())
+            }
+            Err(fault) => {
+                self.rows = *old;
+                Err(fault)
+            }
         }
     }
 
@@ -381,24 +416,6 @@ impl Connection {
             (self.phase, packet.kind),
             (Phase::Request, PacketType::Response)
         ) && !self.is_own_service(&packet.service)
-    }
-
-    // No option of the packet has a fault or says anything to the rows.
-    fn is_silent(&self, packet: &IncomingPacket<'_>) -> bool
-        ensures { result ≡ true → reads_options self.now packet.now ≡ Ok (unheeded self.now.rows) }
-    {
-        let count = heeds_negotiation(packet.newest, self.phase, packet.kind);
-        are_silent(packet.options, packet.kind.is_data(), count)
-    }
-
-    // Reads the options into `reading`, which has read nothing yet.
-    fn read_options(&self, packet: &IncomingPacket<'_>, reading: &mut Reading) -> Result<(), Fault>
-        requires { reading.old ≡ unheeded self.now.rows }
-        ensures { heeding_or reading.new result ≡ reads_options self.now packet.now }
-    {
-        let count = heeds_negotiation(packet.newest, self.phase, packet.kind);
-        let on_data = packet.kind.is_data();
-        heed(reading, packet.options, on_data, count, &packet.ack)
     }
 
     // The packet is marked, it is the one that was taken last, and an acknowledgement is owed.
