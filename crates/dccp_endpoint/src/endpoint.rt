@@ -69,7 +69,7 @@ const FIRST_CCID: u8 = 2;
 ///
 /// # Sizes
 ///
-/// An end has 3,288 bytes besides its congestion control's, which are 184 for `Kinds` of ccid_two, and takes two blocks
+/// An end has 3,000 bytes besides its congestion control's, which are 184 for `Kinds` of ccid_two, and takes two blocks
 /// in `new`, of 17,920 bytes together. A flight list takes one of 32,768; `Kinds` has two. An [`Outbox`] has 2,088
 /// bytes: one may serve all ends of a thread.
 #[derive(Drop)]
