@@ -8,7 +8,7 @@ use Rattle.dccp_endpoint.specs.Inputs.{EndAnswer}
 use Rattle.dccp_endpoint.specs.UserCalls.{seen_of}
 use Rattle.dccp_endpoint.specs.Strangers.{stays_in}
 use Rattle.dccp_listener.specs.Calls.{IsStep}
-use Rattle.dccp_listener.specs.Chain.{Arrives, Calls, ChainStep, Deed, chain_step, flow_step, fresh_end}
+use Rattle.dccp_listener.specs.Chain.{Arrives, Calls, ChainStep, Deed, chain_step, flow_step, fresh_end, kept_until_over}
 use Rattle.dccp_listener.specs.Listens.{AreInOrder, WhatIsComputedIsARun, is_table_full, listening_after, listens_by, fresh_met, with_end}
 use Rattle.dccp_listener.specs.Peers.{FlowEnd, Flows, ListenerState, end_of_peer, is_peer}
 use Rattle.dccp_listener.specs.Runs.{IsTurnSo}
@@ -27,6 +27,13 @@ pub own_after : (peer : Peer) (e : FlowEnd) (flows : Flows) (over : Bool) → Ar
     → end_of_peer (if over then remove_entry (is_peer peer) flows else set_value (is_peer peer) flows e) peer ≡ (if over then None else Some e)
 own_after peer e flows true ordered there = own_found peer None flows _ (value_gone peer flows _ ordered refl).1
 own_after peer e flows false ordered there = own_found peer (Some e) flows _ (value_set peer flows _ e ordered there refl).1
+
+-- which a deed leaves of a peer that has one
+pub own_left : (l : ListenerState) (peer : Peer) (e : FlowEnd) (deed : Deed) → AreInOrder l.flows → end_of_peer l.flows peer ≡ Some e
+    → end_of_peer (listening_after l peer deed).flows peer ≡ kept_until_over (flow_step e deed).after
+own_left l peer e deed ordered found =
+    ap (λ (x : Option FlowEnd). end_of_peer (listens_by l peer x deed).flows peer) found
+    ∙ own_after peer (flow_step e deed).after l.flows (is_closed (flow_step e deed).after.state.phase) ordered (ap is_some found)
 
 others-after : (peer other : Peer) (e : FlowEnd) (flows : Flows) (over : Bool) → AreInOrder flows → IsSome (end_of_peer flows peer) → is_peer peer other ≡ false
     → end_of_peer (if over then remove_entry (is_peer peer) flows else set_value (is_peer peer) flows e) other ≡ end_of_peer flows other

@@ -1,17 +1,16 @@
 -- A peer whose flow is forgotten has none.
 use Rattle.dccp_states.specs.Phases.{is_closed}
-use Rattle.std.proofs.Common.{◌≡◌, ◌⊎◌, inl, inr, refl, sym, ap, ◌∙◌, subst, ℕ, Bool, true, false, if◌then◌else◌, List, [], ◌∷◌, Option, Some, None, is_some, IfSome}
+use Rattle.std.proofs.Common.{◌≡◌, ◌⊎◌, inl, inr, refl, sym, ap, ◌∙◌, subst, ℕ, Bool, true, if◌then◌else◌, List, [], ◌∷◌, Option, Some, None, IfSome}
 use Rattle.std.proofs.lemmas.Bool.{false≢true}
-use Rattle.std.specs.Map.{remove_entry, set_value}
 use Rattle.dccp_endpoint.specs.Calling.{aborts, fires}
 use Rattle.dccp_endpoint.specs.End.{EndState}
 use Rattle.dccp_endpoint.specs.Strangers.{stays_in}
 use Rattle.dccp_listener.proofs.Chains.{each_has_its_chain}
-use Rattle.dccp_listener.proofs.Computing.{computed_runs, own_after}
+use Rattle.dccp_listener.proofs.Computing.{computed_runs, own_left}
 use Rattle.dccp_listener.proofs.EndsStand.{ends_stand}
 use Rattle.dccp_listener.specs.Chain.{Aborts, Calls, Fires, FlowCall, chain_step, flow_step}
 use Rattle.dccp_listener.specs.Listens.{AreInOrder, listening_after, listens_by, turns_of}
-use Rattle.dccp_listener.specs.Peers.{FlowEnd, ListenerState, end_of_peer, is_peer}
+use Rattle.dccp_listener.specs.Peers.{FlowEnd, ListenerState, end_of_peer}
 use Rattle.dccp_listener.specs.Runs.{IsChain, PeerTurn, peer_turns}
 use Rattle.dccp_listener.specs.Standing.{IsFlowOf}
 use Rattle.dccp_listener.specs.declared.config.ListenConfig.{ListenConfig}
@@ -60,18 +59,10 @@ module _ (peer : Peer) where
   none-stays l call none = ap (λ (found : Option FlowEnd). end_of_peer (listens_by l peer found (Calls call)).flows peer) none ∙ none
 
   -- one that is over goes, and any other stays
-  step-by : (l : ListenerState) (e : FlowEnd) (call : FlowCall) (over : Bool) → end_at l ≡ Some e → is_closed (flow_step e (Calls call)).after.state.phase ≡ over
-      → end_at (called l call)
-      ≡ end_of_peer (if over then remove_entry (is_peer peer) l.flows else set_value (is_peer peer) l.flows (flow_step e (Calls call)).after) peer
-  step-by l e call over is is-over =
-      ap (λ (found : Option FlowEnd). end_of_peer (listens_by l peer found (Calls call)).flows peer) is
-      ∙ ap
-      (λ (b : Bool). end_of_peer (if b then remove_entry (is_peer peer) l.flows else set_value (is_peer peer) l.flows (flow_step e (Calls call)).after) peer)
-      is-over
-
   over-goes : (l : ListenerState) (e : FlowEnd) (call : FlowCall) → AreInOrder l.flows → end_at l ≡ Some e
       → (flow_step e (Calls call)).after.state.phase ≡ phases.Closed → end_at (called l call) ≡ None
-  over-goes l e call ordered is closed = step-by l e call true is (ap is_closed closed) ∙ own_after peer (flow_step e (Calls call)).after l.flows true ordered (ap is_some is)
+  over-goes l e call ordered is closed =
+      own_left l peer e (Calls call) ordered is ∙ ap (λ (phase : Phase). if is_closed phase then None else Some (flow_step e (Calls call)).after) closed
 
   in-order : (l : ListenerState) (call : FlowCall) → AreInOrder l.flows → AreInOrder (called l call).flows
   in-order l call ordered = (computed_runs l ((peer, Calls call) ∷ []) ordered).1
@@ -81,7 +72,7 @@ module _ (peer : Peer) where
   waits-goes l e ordered is waits =
       let next : FlowEnd = (flow_step e (Calls Aborts)).after in
       let stays : end_at (called l Aborts) ≡ Some next =
-      step-by l e Aborts false is (ap is_closed waits) ∙ own_after peer next l.flows false ordered (ap is_some is) in
+      own_left l peer e (Calls Aborts) ordered is ∙ ap (λ (phase : Phase). if is_closed phase then None else Some next) waits in
       over-goes (called l Aborts) next (Fires timers.TimeWait) (in-order l Aborts ordered) stays (fired next.state _ waits)
 
   gone-so : (l : ListenerState) (e : FlowEnd) → AreInOrder l.flows → end_at l ≡ Some e → IsOverOrWaits (aborts e.state).after.phase

@@ -75,9 +75,6 @@ module _ (now : ℕ) (before : ListenerState) (pace : Pace) (kept then' : Upkeep
       (is-after ∙ ap (listening_if before peer) (same-call u rule is-u is-rule)) is-then is-u
       (ap (λ (r : Rule). happening.Ruled r) is-rule ∙ ap (λ (v : Upkeep). happening.Ruled (due_rule v.path now)) is-u)
 
-pub rule_sends : (now : ℕ) (before : ListenerState) (pace : Pace) (kept : Upkeeps) (peer : Peer) (frame : Option Outgoing) (u : Upkeep) (rule : Rule)
-    → frame ≡ frame_if before peer (call_for_rule rule u.path.aim (end_of_peer before.flows peer)) → u ≡ upkeep_at pace kept peer
-    → rule ≡ due_rule u.path now → frame ≡ frame_if before peer (call_due now (served before pace kept) peer)
-rule_sends now before pace kept peer frame u rule is is-u is-rule =
-    is ∙ ap (λ (r : Rule). frame_if before peer (call_for_rule r u.path.aim (end_of_peer before.flows peer))) is-rule
-    ∙ ap (λ (v : Upkeep). frame_if before peer (call_by_rule now v (end_of_peer before.flows peer))) is-u
+  pub rule_sends : (frame : Option Outgoing) (u : Upkeep) (rule : Rule) → frame ≡ frame_if before peer (call_for_rule rule u.path.aim found)
+      → u ≡ upkeep_at pace kept peer → rule ≡ due_rule u.path now → frame ≡ frame_if before peer (call_due now s peer)
+  rule_sends frame u rule is is-u is-rule = is ∙ ap (frame_if before peer) (same-call u rule is-u is-rule)

@@ -4,7 +4,7 @@ use Rattle.std.proofs.Common.{◌≡◌, refl, sym, ap, ◌∙◌, subst, ℕ, B
 use Rattle.std.specs.Option.{option_map}
 use Rattle.std.specs.Prelude.{not, unwrap_or}
 use Rattle.ccid_two.specs.Kinds.{Both}
-use Rattle.dccp_listener.proofs.Computing.{own_after}
+use Rattle.dccp_listener.proofs.Computing.{own_left}
 use Rattle.dccp_listener.proofs.InOrder.{own_insert}
 use Rattle.dccp_listener.specs.Chain.{Arrives, Calls, Deed, FlowCall, flow_step}
 use Rattle.dccp_listener.specs.Listens.{listening_after, listens, listens_by}
@@ -27,10 +27,7 @@ module _ (s : ServedListener) (is : IsResting s) (peer : Peer) (e : FlowEnd) (fo
   IsLeft after next = end_of_peer after.flows peer ≡ (if is_closed next.state.phase then None else Some next)
 
   pub left_by_deed : (deed : Deed) → IsLeft (listening_after s.listening peer deed) (flow_step e deed).after
-  left_by_deed deed =
-      let next : FlowEnd = (flow_step e deed).after in
-      ap (λ (x : Option FlowEnd). end_of_peer (listens_by s.listening peer x deed).flows peer) found
-      ∙ own_after peer next s.listening.flows (is_closed next.state.phase) is.tied.ordered (ap is_some found)
+  left_by_deed deed = own_left s.listening peer e deed is.tied.ordered found
 
   pub left_by_call : (call : Option FlowCall) → IsLeft (listening_if s.listening peer call) (flow_after e call)
   left_by_call None =

@@ -18,12 +18,20 @@ use Rattle.dccp_uses.specs.declared.rule.Rule.{Rule}
 abbrev pub IsByDoings : Room → Room → Type 0
 IsByDoings r after = (all : List TimedDeed) × (after ≡ does_all r all)
 
-module _ (now : ℕ) (rules : Rules) (peer : Peer) (iss : ℕ) (bytes : List ℕ) where
-  abbrev does : Peer → Deed → TimedDeed
-  does who deed = record { now = now; peer = who; doing = Does deed }
+abbrev pub does : ℕ → Peer → Deed → TimedDeed
+does now who deed = record { now = now; peer = who; doing = Does deed }
 
+-- a token may be spent before
+pub by_counting : (now : ℕ) (peer : Peer) (bytes : List ℕ) (made : Room → Room) → ((x : Room) → IsByDoings x (made x)) → (r : Room) (refuses : Bool)
+    → IsByDoings r (made (if refuses then r else room_does now r peer (Spends bytes)))
+by_counting now peer bytes made by r true = by r
+by_counting now peer bytes made by r false =
+    let rest = by (room_does now r peer (Spends bytes)) in
+    (record { now = now; peer = peer; doing = Spends bytes } ∷ rest.0, rest.1)
+
+module _ (now : ℕ) (rules : Rules) (peer : Peer) (iss : ℕ) (bytes : List ℕ) where
   abbrev heard : TimedDeed
-  heard = does peer (Arrives iss bytes)
+  heard = does now peer (Arrives iss bytes)
 
   module _ (r : Room) where
     abbrev plain : RoomStep
@@ -31,10 +39,10 @@ module _ (now : ℕ) (rules : Rules) (peer : Peer) (iss : ℕ) (bytes : List ℕ
 
     by-leaving : (leaving : Option Peer) → IsByDoings r (room_made now plain.room peer iss bytes leaving plain).room
     by-leaving None = (heard ∷ [], refl)
-    by-leaving (Some who) = (heard ∷ does who (Calls Aborts) ∷ does who (Calls (Fires timers.TimeWait)) ∷ heard ∷ [], refl)
+    by-leaving (Some who) = (heard ∷ does now who (Calls Aborts) ∷ does now who (Calls (Fires timers.TimeWait)) ∷ heard ∷ [], refl)
 
     by-anew : (anew : Bool) → IsByDoings r (begun_anew now peer plain anew).room
-    by-anew true = (heard ∷ does peer (Calls Aborts) ∷ does peer (Calls (Fires timers.TimeWait)) ∷ [], refl)
+    by-anew true = (heard ∷ does now peer (Calls Aborts) ∷ does now peer (Calls (Fires timers.TimeWait)) ∷ [], refl)
     by-anew false = (heard ∷ [], refl)
 
     by-told : (told : CallTold) → IsByDoings r (comes_by now rules r peer iss bytes plain told).room
@@ -46,16 +54,11 @@ module _ (now : ℕ) (rules : Rules) (peer : Peer) (iss : ℕ) (bytes : List ℕ
     by-hearing true = by-told (listens r.served.listening peer (Arrives iss bytes)).told
     by-hearing false = ([], refl)
 
-  by-counting : (r : Room) (refuses is : Bool)
-      → IsByDoings r (comes_if now rules (if refuses then r else room_does now r peer (Spends bytes)) peer iss bytes is).room
-  by-counting r true is = by-hearing r is
-  by-counting r false is =
-      let rest = by-hearing (room_does now r peer (Spends bytes)) is in
-      (record { now = now; peer = peer; doing = Spends bytes } ∷ rest.0, rest.1)
-
 pub rules_are_deeds : RulesAreDeeds
 rules_are_deeds now rules r peer iss bytes =
-    by-counting now rules peer iss bytes r (refuses_last_sync rules (life_of r.lives peer) bytes) (is_to_be_heard now rules r peer bytes)
+    let is = is_to_be_heard now rules r peer bytes in
+    by_counting now peer bytes (λ x. (comes_if now rules x peer iss bytes is).room) (λ x. by-hearing now rules peer iss bytes x is) r
+    (refuses_last_sync rules (life_of r.lives peer) bytes)
 
 served-same : (now : ℕ) (r : Room) (peer : Peer) (doing : PeerDeed) → (room_does now r peer doing).served ≡ served_by now r.served peer doing
 served-same now r peer (Does deed) = refl

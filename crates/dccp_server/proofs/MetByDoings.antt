@@ -1,7 +1,7 @@
 -- What meeting a datagram leaves is what a list of doings leaves.
-use Rattle.std.proofs.Common.{◌≡◌, refl, sym, ap, ◌∙◌, ℕ, List, [], ◌∷◌, ◌++◌, Bool, true, false, if◌then◌else◌, Option, Some, None, Result, Ok, Err}
+use Rattle.std.proofs.Common.{◌≡◌, refl, ap, ◌∙◌, ℕ, List, [], ◌∷◌, ◌++◌, Bool, Option, Some, None, Result, Ok, Err}
 use Rattle.dccp_packets.specs.Outgoing.{Outgoing}
-use Rattle.dccp_listener.specs.Chain.{Aborts, Arrives, Calls, Deed, Fires}
+use Rattle.dccp_listener.specs.Chain.{Aborts, Arrives, Calls, Fires}
 use Rattle.dccp_listener.specs.Peers.{FlowEnd}
 use Rattle.dccp_listener.specs.declared.calls.Heard.{Heard}
 use Rattle.dccp_listener.specs.declared.peer.Peer.{Peer}
@@ -11,13 +11,13 @@ use Rattle.init_cookies.specs.declared.cookie.CookieKeys.{CookieKeys}
 use Rattle.seq_circle.specs.declared.memory.NoMemory.{NoMemory}
 use Rattle.server_peers.specs.Lives.{life_of}
 use Rattle.dccp_server.specs.Meeting.{IsGreeted, IsReopened, IsUnopened, MeetingsAreDeeds, cleared, cleared_if, entry_met, flow_at, hurrying, reopened, request_at, unreopened}
-use Rattle.dccp_server.specs.Rooms.{IsServed, Reception, Room, RuledRoom, left_without_memory, received_at, room_does, unreceived_at}
+use Rattle.dccp_server.specs.Rooms.{IsServed, Reception, Room, RuledRoom, left_without_memory, received_at, unreceived_at}
 use Rattle.dccp_server.specs.Anew.{refuses_last_sync}
-use Rattle.dccp_server.specs.Serving.{Does, ServedListener, Spends, TimedDeed, served_by, served_through}
+use Rattle.dccp_server.specs.Serving.{ServedListener, TimedDeed, served_by, served_through}
 use Rattle.server_peers.specs.declared.asking.DatagramKind.{DatagramKind}
 use Rattle.server_peers.specs.declared.asking.DatagramKind.TheVariants as entry
 use Rattle.dccp_server.specs.declared.meeting.Way.TheVariants as way
-use Rattle.dccp_server.proofs.Judging.{IsByDoings, lives_change_nothing, rules_are_deeds}
+use Rattle.dccp_server.proofs.Judging.{IsByDoings, by_counting, does, lives_change_nothing, rules_are_deeds}
 
 abbrev LeavesByDoings : RuledRoom → RuledRoom → Type 0
 LeavesByDoings s after = (all : List TimedDeed) × (after.room.served ≡ served_through s.room.served all)
@@ -36,9 +36,6 @@ by-room s after is = (is.0, ap (λ (r : Room). r.served) is.1 ∙ lives_change_n
 as-it-was : (s after : RuledRoom) → after ≡ s → LeavesByDoings s after
 as-it-was s after is = ([], ap (λ (x : RuledRoom). x.room.served) is)
 
-abbrev does : ℕ → Peer → Deed → TimedDeed
-does now who deed = record { now = now; peer = who; doing = Does deed }
-
 -- where no memory was found
 
 module _ (now : ℕ) (peer : Peer) (iss : ℕ) (bytes : List ℕ) where
@@ -47,16 +44,11 @@ module _ (now : ℕ) (peer : Peer) (iss : ℕ) (bytes : List ℕ) where
   left-so r (Some who) =
       (does now peer (Arrives iss bytes) ∷ does now who (Calls Aborts) ∷ does now who (Calls (Fires timers.TimeWait)) ∷ [], refl)
 
-  counted-so : (r : Room) (refuses : Bool) (evicted : Option Peer)
-      → IsByDoings r (left_without_memory now (if refuses then r else room_does now r peer (Spends bytes)) peer iss bytes evicted)
-  counted-so r true evicted = left-so r evicted
-  counted-so r false evicted =
-      let rest = left-so (room_does now r peer (Spends bytes)) evicted in
-      (record { now = now; peer = peer; doing = Spends bytes } ∷ rest.0, rest.1)
-
   unserved : (s : RuledRoom) (evicted : Option Peer) → LeavesByDoings s (unreceived_at now s peer iss bytes evicted)
   unserved s evicted =
-      by-room s (unreceived_at now s peer iss bytes evicted) (counted-so s.room (refuses_last_sync s.rules (life_of s.room.lives peer) bytes) evicted)
+      by-room s (unreceived_at now s peer iss bytes evicted)
+      (by_counting now peer bytes (λ x. left_without_memory now x peer iss bytes evicted) (λ x. left-so x evicted) s.room
+      (refuses_last_sync s.rules (life_of s.room.lives peer) bytes))
 
   received : (s : RuledRoom) → LeavesByDoings s (received_at now s peer iss bytes).server
   received s = by-room s (received_at now s peer iss bytes).server (rules_are_deeds now s.rules s.room peer iss bytes)

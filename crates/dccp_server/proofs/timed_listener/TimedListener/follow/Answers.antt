@@ -28,7 +28,7 @@ returns-clause-after c =
 pub returns-clause-sent : goal.returns-clause-sent
 returns-clause-sent c =
     subst (λ (x : ServedListener). c.obey_at.new.out ≡ frame_if x.listening c.args.peer (call_due c.args.now x c.args.peer)) c.self.view_is
-    (rule_sends c.args.now c.self.inside.listener c.self.inside.pace c.self.inside.upkeeps c.args.peer c.obey_at.new.out c.upkeep_at-upkeep.result
+    (rule_sends c.args.now c.self.inside.listener c.self.inside.pace c.self.inside.upkeeps c.arrange.new.upkeeps c.args.peer c.obey_at.new.out c.upkeep_at-upkeep.result
     c.due_rule-rule.result c.obey_at.ensures.sent c.upkeep_at-upkeep.ensures c.due_rule-rule.ensures)
 
 pub invariant_of-self : goal.invariant_of-self
