@@ -1,6 +1,6 @@
 -- No flow is passed over: the first ticket of a class is no later than any other of it.
 use Rattle.std.proofs.Common.{◌≡◌, refl, sym, ap, ◌∙◌, subst, ℕ, ◌+◌, ◌-◌, ◌^◌, ◌≤◌, ◌<◌, ◌==◌, ◌||◌, nat_le, nat_lt, Bool, true, false, cond, if◌then◌else◌, T, List, [], ◌∷◌, Option, Some, None, is_some, Ordering, Less, Equal, is_eq, is_lt, nat_cmp, arith}
-use Rattle.std.proofs.lemmas.Bool.{false≢true}
+use Rattle.std.proofs.Math.Bool.{or-false}
 use Rattle.std.proofs.lemmas.Bool.Decides.{nat_tests}
 use Rattle.std.proofs.lemmas.Cmp.{nat_cmp_total, tied_itself}
 use Rattle.std.specs.FinMap.Entries.{below_all, is_sorted}
@@ -28,6 +28,7 @@ use Rattle.server_peers.specs.declared.rules.Rules.{Rules}
 use Rattle.server_peers.specs.declared.stage.Stage.{Stage}
 use Rattle.server_peers.specs.declared.stage.Stage.TheVariants as stage
 use Rattle.dccp_uses.specs.declared.upkeep.Upkeep.{Upkeep}
+use Rattle.server_peers.proofs.Among.{none_from}
 use Rattle.server_peers.proofs.Classes.{no_more_than}
 use Rattle.server_peers.proofs.Ordered.{first_of, less_from, rest_of}
 use Rattle.server_peers.proofs.Tickets.{exact_tickets, found, its_ticket, queue_ordered, stands, tickets_total}
@@ -127,13 +128,9 @@ run-out : (alarm : Option Alarm) (t : ℕ) → t < 2 ^ 64 → has_run_out alarm 
 run-out None t fits = refl
 run-out (Some a) t fits = wait-by a t (a.wait == 0) refl fits
 
-or-none : (b : Bool) → b ≡ (b || false)
-or-none true = refl
-or-none false = refl
-
 either-reached : (a b : Option ℕ) (t : ℕ) → reached (earlier a b) t ≡ (reached a t || reached b t)
 either-reached None b t = refl
-either-reached (Some a) None t = or-none (nat_le a t)
+either-reached (Some a) None t = sym (or-false (nat_le a t))
 either-reached (Some a) (Some b) t = grind (arith, nat_tests)
 
 some-or : (it : Due) (rest : Option Due) (b : Bool) → is_some (if b then Some it else rest) ≡ (b || is_some rest)
@@ -147,10 +144,6 @@ due-reached u t (it ∷ rest) fits =
     ∙ ap (λ (b : Bool). b || is_some (first_due u t rest)) (run-out (due_alarm u it) t fits)
     ∙ ap (λ (b : Bool). reached (alarm_end (due_alarm u it)) t || b) (due-reached u t rest fits)
     ∙ sym (either-reached (alarm_end (due_alarm u it)) (first_end u rest) t)
-
-none-from : {X : Type 0} (x : Option X) → is_some x ≡ false → x ≡ None
-none-from None is = refl
-none-from (Some v) is = absurd (false≢true (sym is))
 
 mapped : {X Y : Type 0} (f : X → Y) (x : Option X) → is_some (option_map f x) ≡ is_some x
 mapped f None = refl
@@ -214,7 +207,7 @@ module _ (upkeeps : Upkeeps) (ordered : IsStrictlySortedBy peer_cmp (keys_of upk
 
     not-due : first_due u later every_due ≡ None
     not-due =
-        none-from (first_due u later every_due)
+        none_from (first_due u later every_due)
         (due-reached u later every_due fits ∙ not-due-by (first_end u every_due) refl)
 
 pub none_passed_over : NoneIsPassedOver

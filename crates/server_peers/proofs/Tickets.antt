@@ -2,6 +2,7 @@
 use Rattle.std.proofs.Common.{◌≡◌, refl, sym, ap, ◌∙◌, subst, ℕ, ◌+◌, ◌≤◌, ◌<◌, Bool, true, false, cond, not, T, List, [], ◌∷◌, length, Option, Some, None, is_some, OnSome, Ordering, Less, Equal, Greater, is_eq, nat_cmp, arith}
 use Rattle.std.proofs.lemmas.Bool.{false≢true}
 use Rattle.std.proofs.lemmas.Cmp.{alike_right, eq_by_cmp_equiv, nat_cmp_total, on_total, then_total}
+use Rattle.std.proofs.lemmas.Map.Made.{is_some-lookup}
 use Rattle.std.proofs.lemmas.Map.Lookups.{CmpEqualImpliesEq, exact_pairs, exact_unsigned}
 use Rattle.std.specs.BTreeMap.{is_at}
 use Rattle.std.specs.Cmp.{IsEquivalence, IsTotalOrder}
@@ -13,7 +14,7 @@ use Rattle.std.specs.Ordering.{eq_by_cmp, match_ordering, ordering_then}
 use Rattle.std.specs.BTreeSet.{insert_key}
 use Rattle.server_peers.proofs.Ordered.{filter_paired, put_paired, same_paired}
 use Rattle.dccp_listener.proofs.OnePeer.{exact_peers, one_peer, peers_alike, peers_total}
-use Rattle.server_peers.proofs.Among.{found_among, none_from, not_among}
+use Rattle.server_peers.proofs.Among.{none_from, not_among}
 use Rattle.dccp_listener.specs.Peers.{is_peer, peer_cmp}
 use Rattle.server_peers.specs.Queues.{AreTicketsInOrder, IsQueued, moment_if, paired, queue_of, queued, ticket, ticket_cmp, unqueued, without}
 use Rattle.dccp_listener.specs.declared.peer.Peer.{Peer}
@@ -123,7 +124,7 @@ module _ {V : Type 0} (moment : V → Option (ℕ × ℕ)) where
   unfolding IsStrictlySortedBy
   none-after q one rest ordered is =
       ap (λ (p : Peer). lookup (is_peer p) rest) (one_peer q one.0 is)
-      ∙ none_from (lookup (is_peer one.0) rest) (found_among (is_peer one.0) rest ∙ not_among one.0 (keys_of rest) ordered.0)
+      ∙ none_from (lookup (is_peer one.0) rest) (is_some-lookup (is_peer one.0) rest ∙ not_among one.0 (keys_of rest) ordered.0)
 
   tail-ordered : (one : Peer × V) (rest : List (Peer × V)) → IsStrictlySortedBy peer_cmp (keys_of (one ∷ rest)) → IsStrictlySortedBy peer_cmp (keys_of rest)
   unfolding IsStrictlySortedBy

@@ -2,6 +2,7 @@
 use Rattle.std.proofs.Common.{◌≡◌, refl, sym, ap, ◌∙◌, subst, ℕ, ◌≤◌, ◌<◌, true, cond, List, [], ◌∷◌, length, Option, is_some, IsSome, Some, None, Ordering, Less, Equal, Greater, is_eq, arith}
 use Rattle.std.proofs.lemmas.Bool.{false≢true}
 use Rattle.std.proofs.lemmas.Map.{length-set_value}
+use Rattle.std.proofs.lemmas.Map.Made.{is_some-lookup}
 use Rattle.std.specs.BTreeMap.{insert_entry}
 use Rattle.std.specs.List.Sorted.{IsStrictlySortedBy}
 use Rattle.std.specs.Map.{keys_of, lookup, set_value}
@@ -11,7 +12,7 @@ use Rattle.dccp_listener.proofs.Searching.{Finds, value_set}
 use Rattle.dccp_listener.specs.Peers.{is_peer, peer_cmp}
 use Rattle.dccp_listener.specs.declared.peer.Peer.{Peer}
 use Rattle.server_peers.proofs.Tickets.{goes_on, goes_on_as_it_is}
-use Rattle.server_peers.proofs.Among.{found_among, not_among}
+use Rattle.server_peers.proofs.Among.{not_among}
 use Rattle.server_peers.specs.Queues.{IsQueued, moment_if, queued, unqueued}
 use Rattle.server_peers.specs.declared.queue.Ticket.{Ticket}
 
@@ -23,7 +24,7 @@ module _ {X : Type 0} (peer : Peer) (w : X) where
       → cond (is_eq o) ((one.0, w) ∷ rest) (one ∷ set_value (is_peer peer) rest w)
       ≡ match_ordering o ((peer, w) ∷ one ∷ rest) ((one.0, w) ∷ rest) (one ∷ insert_entry peer_cmp rest peer w)
   over-by one rest Less is all there later =
-      absurd (false≢true (sym (found_among (is_peer peer) rest ∙ not_among peer (keys_of rest) (all_after peer one.0 (keys_of rest) is all)) ∙ there))
+      absurd (false≢true (sym (is_some-lookup (is_peer peer) rest ∙ not_among peer (keys_of rest) (all_after peer one.0 (keys_of rest) is all)) ∙ there))
   over-by one rest Equal is all there later = refl
   over-by one rest Greater is all there later = ap (λ (l : List (Peer × X)). one ∷ l) (later there)
 
