@@ -116,7 +116,16 @@ impl Server {
         ensures { IsServed now self.old self.new peer iss datagram.now out.new result.heard result.evicted result.anew }
     {
         let was = self.has_flow(peer);
-        let arrival = self.come(peer, iss, datagram, now, out);
+        let arrival = arrive(
+            &mut self.timed,
+            &mut self.lives,
+            &self.rules,
+            peer,
+            iss,
+            datagram,
+            now,
+            out,
+        );
         let answers = !was && (!self.has_flow(peer) && out.frame().is_some());
         self.strangers = spare(
             &self.rules,
@@ -127,34 +136,6 @@ impl Server {
             out,
         );
         arrival
-    }
-
-    // The same, but a frame to a stranger is not counted.
-    fn come(
-        &mut self,
-        peer: Peer,
-        iss: Seq48,
-        datagram: &DecodedDatagram<'_>,
-        now: u64,
-        out: &mut Outbox,
-    ) -> ArrivalResult
-        requires { length datagram.now ≤ 2044 }
-        ensures arrived { HasArrived now self.old.rules self.old.room self.new.room peer iss datagram.now out.new result.heard result.evicted result.anew }
-        ensures rules { self.new.rules ≡ self.old.rules }
-        ensures strangers { self.new.strangers ≡ self.old.strangers }
-        ensures cookies { self.new.cookies ≡ self.old.cookies }
-        ensures keys { self.new.keys ≡ self.old.keys }
-    {
-        arrive(
-            &mut self.timed,
-            &mut self.lives,
-            &self.rules,
-            peer,
-            iss,
-            datagram,
-            now,
-            out,
-        )
     }
 
     // Drops the flow that the peer had, since its cookie was valid.

@@ -1,4 +1,0 @@
-use Rattle.dccp_server.proofs.server.Server.come.Goals as goal
-
-pub invariant_of-self : goal.invariant_of-self
-invariant_of-self c = c.arrive.ensures.living
