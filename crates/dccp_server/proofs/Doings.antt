@@ -1,15 +1,10 @@
 -- What the listener's own clauses say of a call, as it is computed.
-use Rattle.std.proofs.Common.{◌≡◌, ap, ◌∙◌, ℕ, List, Option, Result, Ok, Err}
-use Rattle.std.specs.Prelude.{IfOk}
+use Rattle.std.proofs.Common.{◌≡◌, ap, ◌∙◌, Option}
 use Rattle.dccp_packets.specs.Outgoing.{Outgoing}
-use Rattle.dccp_listener.specs.Chain.{Arrives}
 use Rattle.dccp_listener.specs.Listens.{ListenerStep, listens}
 use Rattle.dccp_listener.specs.Peers.{Flows, ListenerState}
-use Rattle.dccp_listener.specs.Runs.{CallTold, CallTurn, IsTurn, IsTurnSo, Stepped, WasBusy, HadNoMemory, arrival, told_of}
-use Rattle.dccp_listener.specs.declared.calls.Heard.{Heard}
+use Rattle.dccp_listener.specs.Runs.{CallTold, CallTurn, IsTurn, IsTurnSo, Stepped, WasBusy, HadNoMemory}
 use Rattle.dccp_listener.specs.declared.config.ListenConfig.{ListenConfig}
-use Rattle.dccp_listener.specs.declared.peer.Peer.{Peer}
-use Rattle.seq_circle.specs.declared.memory.NoMemory.{NoMemory}
 use Rattle.dccp_server.specs.Serving.{IsDone}
 
 -- no call changes what the listener was made from
@@ -29,11 +24,3 @@ done_as before after turn frame told turned is = (
   ap (λ (x : ListenerStep). x.frame) is,
   ap (λ (x : ListenerStep). x.told) is,
 )
-
-pub heard_as : (before after : ListenerState) (peer : Peer) (iss : ℕ) (bytes : List ℕ) (frame : Option Outgoing) (result : Result Heard NoMemory)
-    → IsTurn before after (arrival peer iss bytes frame result)
-    → IfOk result (λ heard. record { flows = after.flows; frame = frame; told = told_of (Ok heard) } ≡ listens before peer (Arrives iss bytes))
-    → IfOk result (λ heard. IsDone before after peer (Arrives iss bytes) frame (told_of (Ok heard)))
-heard_as before after peer iss bytes frame (Ok heard) turned is =
-    done_as before after (arrival peer iss bytes frame (Ok heard)) frame (told_of (Ok heard)) turned is
-heard_as before after peer iss bytes frame (Err fault) turned is = tt

@@ -1,6 +1,6 @@
 -- The peers of which something is kept are those that have a flow, and who has a flow has a place for it.
 use Rattle.dccp_states.specs.Phases.{is_closed}
-use Rattle.std.proofs.Common.{◌≡◌, refl, sym, ap, ◌∙◌, subst, ℕ, Bool, true, false, cond, if◌then◌else◌, List, [], ◌∷◌, Option, Some, None, is_some, IsSome, inl, inr, Result, Ok, Err, OnErr, Ordering, Less, Equal, Greater}
+use Rattle.std.proofs.Common.{◌≡◌, refl, sym, ap, ◌∙◌, subst, ℕ, Bool, true, false, cond, if◌then◌else◌, List, [], ◌∷◌, Option, Some, None, is_some, IsSome, inl, inr, Ordering, Less, Equal, Greater}
 use Rattle.std.proofs.lemmas.Bool.{false≢true}
 use Rattle.std.proofs.lemmas.Map.{keys-set_value}
 use Rattle.std.specs.BTreeMap.{insert_entry}
@@ -9,22 +9,18 @@ use Rattle.std.specs.Map.{keys_of, lookup, remove_entry, set_value}
 use Rattle.std.specs.Ordering.{match_ordering}
 use Rattle.ccid_two.specs.Kinds.{Both}
 use Rattle.dccp_endpoint.specs.Strangers.{stays_in}
-use Rattle.dccp_packets.specs.Outgoing.{Outgoing}
 use Rattle.dccp_endpoint.specs.Controlled.{EndStep}
 use Rattle.dccp_endpoint.specs.Inputs.{EndAnswer}
 use Rattle.dccp_listener.proofs.Computing.{computed_runs, own_after}
 use Rattle.dccp_listener.proofs.InOrder.{own_insert}
 use Rattle.dccp_listener.proofs.Searching.{none_taken}
-use Rattle.dccp_listener.specs.Calls.{Arrived}
 use Rattle.dccp_listener.specs.Chain.{Arrives, Calls, Deed, FlowCall, flow_step, fresh_end}
 use Rattle.dccp_listener.specs.Listens.{AreInOrder, fresh_met, is_table_full, listening_after, listens_by}
 use Rattle.dccp_listener.specs.Peers.{FlowEnd, Flows, ListenerState, end_of_peer, is_peer, peer_cmp}
-use Rattle.dccp_listener.specs.declared.calls.Heard.{Heard}
 use Rattle.dccp_listener.specs.declared.config.ListenConfig.{ListenConfig}
 use Rattle.dccp_listener.specs.declared.peer.Peer.{Peer}
 use Rattle.dccp_uses.specs.Rules.{due_rule}
 use Rattle.dccp_uses.specs.declared.pace.Pace.{Pace}
-use Rattle.seq_circle.specs.declared.memory.NoMemory.{NoMemory}
 use Rattle.server_peers.specs.Places.{HasPlaceIf, kept_then}
 use Rattle.dccp_server.specs.Serving.{CallsWantNoMemory, Does, PeerDeed, Follows, IsTied, OnlyStrangersWantMemory, ServedListener, Spends, TimedDeed, Upkeeps, UpkeepsStandWithFlows, WantsMemory, call_due, upkeep_counted, deed_served, happening_by, listening_if, served, served_by, served_through, serves_on, serving_begins, served_counted_by, upkeep_at}
 use Rattle.dccp_server.specs.Upkeeps.{next_upkeep}
@@ -240,12 +236,6 @@ pub place_after : (s : ServedListener) (after : ListenerState) (peer : Peer) (ca
     → HasPlaceIf (end_of_peer after.flows peer) s.upkeeps peer
 place_after s after peer call tied is =
     subst (λ (l : ListenerState). HasPlaceIf (end_of_peer l.flows peer) s.upkeeps peer) (sym is) (place-by-call s peer call tied)
-
--- memory for a datagram is wanting where it would open a flow
-pub stranger_from_arrived : (before after : ListenerState) (peer : Peer) (iss : ℕ) (bytes : List ℕ) (frame : Option Outgoing) (result : Result Heard NoMemory)
-    → Arrived before after peer iss bytes frame result → OnErr result (end_of_peer before.flows peer ≡ None)
-stranger_from_arrived before after peer iss bytes frame (Ok heard) is = tt
-stranger_from_arrived before after peer iss bytes frame (Err fault) is = is.0.has_none
 
 -- at first there are none
 pub tied_begins : (config : ListenConfig) (pace : Pace) (l : ListenerState) (kept : Upkeeps) → l ≡ record { config = config; flows = [] } → kept ≡ []

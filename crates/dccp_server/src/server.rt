@@ -59,12 +59,12 @@ impl Server {
     ghost use Rattle.dccp_listener.specs.Standing.{IsListening};
     ghost use Rattle.dccp_packets.specs.Grammar.{decoded};
     ghost use Rattle.server_peers.specs.Lives.{life_of};
-    ghost use Rattle.dccp_server.specs.Meeting.{IsMet, cleared, entry_met, entry_without, flow_at, heard_again, hurrying, is_unproved, maker_of, may_meet, needs_no_flow, received_hurrying, reopened, returned, unreceived_hurrying, unreopened, user_kept};
+    ghost use Rattle.dccp_server.specs.Meeting.{IsMet, cleared, entry_met, entry_without, flow_at, heard_again, hurrying, is_unproved, maker_of, may_meet, needs_no_flow, received_hurrying, reopened, returned, unreceived_hurrying, unreopened};
     ghost use Rattle.server_peers.specs.CookieUses.{rekeyed};
     ghost use Rattle.server_peers.specs.Places.{peer_after};
     ghost use Rattle.dccp_server.specs.Refusals.{refused_frame, refused_server};
     ghost use Rattle.server_peers.specs.Refusals.{flow_asked};
-    ghost use Rattle.dccp_server.specs.Rooms.{HasArrived, IsServed, forgets, is_to_be_heard, received_at, duty_done, duty_due, duty_frame, duty_in, room_does, room_waits, ruled_begins, who_is_over, who_leaves, with_user};
+    ghost use Rattle.dccp_server.specs.Rooms.{IsServed, forgets, is_to_be_heard, received_at, duty_done, duty_due, duty_frame, duty_in, room_does, room_waits, ruled_begins, who_is_over, who_leaves, with_user};
     ghost use Rattle.dccp_server.specs.Serving.{Does, Follows, doing_frame, flow_restraint, flow_restraint_by, upkeep_at};
 
     /// A server without flows. Its ends make the offers of the lists, and follow the rules of `pace` on their paths;
@@ -291,16 +291,9 @@ impl Server {
         let user = self.life(peer).user;
         let arrival = self.hear_again(peer, opening, now, out);
         if arrival.heard.is_ok() {
-            self.write_user(peer, user);
+            let _ = self.set_user(peer, user);
         }
         arrival
-    }
-
-    // Sets the owner's number for a peer's flow, if it has one.
-    fn write_user(&mut self, peer: Peer, user: u64)
-        ensures { self.new ≡ user_kept user peer self.old }
-    {
-        let _ = self.set_user(peer, user);
     }
 
     /// A datagram of a peer has arrived, at most 2,044 bytes: `arrive`, with Init Cookies if `set_cookies` says so and

@@ -1,24 +1,21 @@
 //! The calls of a listener, with what is kept of its flows.
-ghost use Rattle.std.specs.Prelude.{◌≡◌, ◌≤◌, [], ◌∷◌, None, Ok, IfOk, OnOk, OnErr, IsSome, length};
+ghost use Rattle.std.specs.Prelude.{◌≡◌, [], ◌∷◌, None, IsSome};
 ghost use Rattle.std.specs.BTreeMap.{insert_entry};
 ghost use Rattle.std.specs.Map.{lookup};
 ghost use Rattle.dccp_listener.specs.Calls.{seen_if};
-ghost use Rattle.dccp_listener.specs.Chain.{Arrives, Calls, Prefers, asked};
+ghost use Rattle.dccp_listener.specs.Chain.{Calls, Prefers, asked};
 ghost use Rattle.dccp_listener.specs.Listens.{listening_after, listens};
 ghost use Rattle.dccp_listener.specs.Peers.{end_of_peer, is_peer, peer_cmp};
-ghost use Rattle.dccp_listener.specs.Runs.{Stepped, told_of};
+ghost use Rattle.dccp_listener.specs.Runs.{Stepped};
 ghost use Rattle.dccp_uses.specs.Syncs.{admitted};
-ghost use Rattle.server_peers.specs.Places.{HasPlaceIf, IsPlaced};
+ghost use Rattle.server_peers.specs.Places.{HasPlaceIf};
 ghost use Rattle.dccp_server.specs.Serving.{IsDone, due_of_flow, frame_if, listening_if, soonest, upkeep_at, upkeep_counted, upkeeps_then};
 ghost use Rattle.dccp_server.specs.Upkeeps.{call_for_rule, ratio_held, rule_call, sight_if};
-ghost use Rattle.dccp_uses.specs.Upkeeps.{upkeep_begins};
 
 use crate::happening::FlowHappening;
 use ccid_two::Kinds;
-use dccp_endpoint::{
-    DecodedDatagram, Endpoint, Feature, NoMemory, Outbox, Place, Seen, Seq48, Timer, UserCall,
-};
-use dccp_listener::{Heard, Listener, NoFlow, Peer};
+use dccp_endpoint::{DecodedDatagram, Endpoint, Feature, Outbox, Place, Seen, Timer, UserCall};
+use dccp_listener::{Listener, NoFlow, Peer};
 use dccp_uses::{Due, Pace, Rule, Sight, Upkeep, admit};
 use server_peers::{Register, Ticket};
 
@@ -40,23 +37,6 @@ pub(crate) fn upkeep_at(upkeeps: &Register<Upkeep>, pace: Pace, peer: Peer) -> U
         Some(upkeep) => *upkeep,
         None => Upkeep::begins(pace),
     }
-}
-
-/// The peer has a place for what is kept of it from now on. Returns whether it had one before.
-pub(crate) fn place(
-    upkeeps: &mut Register<Upkeep>,
-    pace: Pace,
-    peer: Peer,
-) -> Result<bool, NoMemory>
-    ensures placed { IfOk result (λ had. IsPlaced (upkeep_begins pace) had upkeeps.old upkeeps.new peer) }
-    ensures there { OnOk result (IsSome (lookup (is_peer peer) upkeeps.new)) }
-    ensures unchanged { OnErr result (upkeeps.new ≡ upkeeps.old) }
-    ensures absent { OnErr result (lookup (is_peer peer) upkeeps.old ≡ None) }
-{
-    if upkeeps.get(peer).is_some() {
-        return Ok(true);
-    }
-    upkeeps.place_for(peer, Upkeep::begins(pace))
 }
 
 /// What is kept of the peer goes on from this with its end, and ends with it.
@@ -82,22 +62,6 @@ pub(crate) fn arrange(
             upkeeps.remove(peer);
         }
     }
-}
-
-/// The listener hears a datagram.
-pub(crate) fn hear(
-    listener: &mut Listener,
-    peer: Peer,
-    iss: Seq48,
-    datagram: &DecodedDatagram<'_>,
-    out: &mut Outbox,
-) -> Result<Heard, NoMemory>
-    requires { length datagram.now ≤ 2044 }
-    ensures done { IfOk result (λ heard. IsDone listener.old listener.new peer (Arrives iss datagram.now) out.new (told_of (Ok heard))) }
-    ensures unchanged { OnErr result (listener.new ≡ listener.old) }
-    ensures stranger { OnErr result (end_of_peer listener.old.flows peer ≡ None) }
-{
-    listener.arrive_decoded(peer, iss, datagram, out)
 }
 
 /// The listener takes a call of a peer's end.

@@ -2,9 +2,7 @@
 ghost use Rattle.std.specs.Prelude.{◌≡◌};
 
 use crate::happening::{FlowHappening, arrived_so, called_so};
-use crate::serving::{
-    arrange, ask, count, due_of_flow, hear, obey_at, place, sight_at, soonest, upkeep_at,
-};
+use crate::serving::{arrange, ask, count, due_of_flow, obey_at, sight_at, soonest, upkeep_at};
 use ccid_two::Kinds;
 use dccp_endpoint::{DecodedDatagram, Endpoint, NoMemory, Outbox, Outcome, Seen, Seq48, UserCall};
 use dccp_listener::{Heard, ListenConfig, Listener, NoFlow, Peer};
@@ -104,8 +102,8 @@ impl TimedListener {
     {
         let was = sight_at(&self.listener, peer);
         let upkeep = upkeep_at(&self.upkeeps, self.pace, peer);
-        let had = place(&mut self.upkeeps, self.pace, peer)?;
-        match hear(&mut self.listener, peer, iss, datagram, out) {
+        let had = self.upkeeps.place_for(peer, upkeep)?;
+        match self.listener.arrive_decoded(peer, iss, datagram, out) {
             Ok(heard) => {
                 let happening = arrived_so(was, &heard, is_silent(out));
                 arrange(

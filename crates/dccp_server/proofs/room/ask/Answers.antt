@@ -20,9 +20,4 @@ returns-clause-after c =
 
 pub returns-clause-living : goal.returns-clause-living
 returns-clause-living c =
-    living_then c.args.now _ _ c.args.peer (Does (Calls (asked c.args.call)))
-    (room_as c.args.now c.args.timed.now c.ask-answer.new.self _ c.args.lives.now c.go_on.new.lives c.args.peer
-    c.signs_answered-signs.result (signs_by c.args.timed.now.listening c.args.peer (Calls (asked c.args.call))) c.life_of-life.result
-    c.ask-answer.ensures.after c.go_on.ensures
-    (c.signs_answered-signs.ensures ∙ ap signs_of c.ask-answer.ensures.told) c.life_of-life.ensures)
-    c.requires
+    living_then c.args.now _ _ c.args.peer (Does (Calls (asked c.args.call))) (returns-clause-after c) c.requires

@@ -14,8 +14,4 @@ returns-clause-after c =
     c.none.result no_signs c.life_of-life.result c.follow.ensures.after c.go_on.ensures c.none.ensures c.life_of-life.ensures
 
 pub returns-clause-living : goal.returns-clause-living
-returns-clause-living c =
-    living_then c.args.now _ _ c.args.peer Follows
-    (room_as c.args.now c.args.timed.now c.follow.new.self _ c.args.lives.now c.go_on.new.lives c.args.peer
-    c.none.result no_signs c.life_of-life.result c.follow.ensures.after c.go_on.ensures c.none.ensures c.life_of-life.ensures)
-    c.requires
+returns-clause-living c = living_then c.args.now _ _ c.args.peer Follows (returns-clause-after c) c.requires

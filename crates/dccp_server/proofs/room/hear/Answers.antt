@@ -23,12 +23,7 @@ returns-in-Ok-clause-after c =
 pub returns-in-Ok-clause-living : goal.returns-in-Ok-clause-living
 returns-in-Ok-clause-living c =
     living_then c.args.now _ _ c.args.peer (Does (Arrives c.args.iss c.args.datagram.now))
-    (room_placed _ c.args.now c.in_ok-had.had c.args.timed.now c.arrive.new.self _ c.args.lives.now c.place_for.new.self
-    c.go_on.new.lives c.args.peer c.signs_noted-signs.result
-    (signs_by c.args.timed.now.listening c.args.peer (Arrives c.args.iss c.args.datagram.now)) c.args.life.now c.in_ok-had.ensures.placed
-    c.in-Ok.ensures.after c.go_on.ensures
-    (c.signs_noted-signs.ensures ∙ ap (signs_noted c.args.datagram.now) (c.signs_heard.ensures ∙ ap signs_of c.in-Ok.ensures.told)) c.requires.known)
-    c.requires.living
+    (returns-in-Ok-clause-after c) c.requires.living
 
 pub returns-in-Err-clause-unchanged : goal.returns-in-Err-clause-unchanged
 returns-in-Err-clause-unchanged c =
@@ -37,9 +32,4 @@ returns-in-Err-clause-unchanged c =
     (c.take_back.ensures ∙ taken_back _ c.in_ok-had.had c.args.lives.now c.place_for.new.self c.args.peer c.in_ok-had.ensures.placed)
 
 pub returns-in-Err-clause-living : goal.returns-in-Err-clause-living
-returns-in-Err-clause-living c =
-    living_same _ _
-    (ap (λ (s : ServedListener). as_room s c.take_back.new.self) c.in-Err.ensures.unchanged
-    ∙ ap (λ (l : Lives). as_room c.args.timed.now l)
-    (c.take_back.ensures ∙ taken_back _ c.in_ok-had.had c.args.lives.now c.place_for.new.self c.args.peer c.in_ok-had.ensures.placed))
-    c.requires.living
+returns-in-Err-clause-living c = living_same _ _ (returns-in-Err-clause-unchanged c) c.requires.living
