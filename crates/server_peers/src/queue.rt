@@ -138,17 +138,6 @@ fn take(tickets: &mut VecDeque<u128>, ticket: u128)
     }
 }
 
-// A ticket goes, if it is there, and another gets its place, unless it is there.
-fn replace(tickets: &mut VecDeque<u128>, from: u128, to: u128)
-    requires order { AreTicketsInOrder (tickets_at tickets.old.items) }
-    requires room { length (tickets_at tickets.old.items) < deque_capacity tickets.old }
-    ensures replaced { tickets_at tickets.new.items ≡ insert_key ticket_cmp (without (ticket_at from) (tickets_at tickets.old.items)) (ticket_at to) }
-    ensures room { deque_capacity tickets.old ≤ deque_capacity tickets.new }
-{
-    take(tickets, from);
-    put(tickets, to);
-}
-
 /// Whether two moments are equal, so that a ticket need not move.
 pub(crate) fn is_one_moment(from: Option<(u8, u64)>, to: Option<(u8, u64)>) -> bool
     ensures { result ≡ true → from ≡ to }
@@ -174,7 +163,8 @@ pub(crate) fn requeue(
 {
     match (was, next) {
         (Some(from), Some(to)) => {
-            replace(tickets, number_of(from, peer), number_of(to, peer));
+            take(tickets, number_of(from, peer));
+            put(tickets, number_of(to, peer));
         }
         (Some(from), None) => take(tickets, number_of(from, peer)),
         (None, Some(to)) => put(tickets, number_of(to, peer)),
