@@ -6,7 +6,7 @@ use Rattle.ccid_two.specs.Kinds.{Both}
 use Rattle.dccp_endpoint.specs.Controlled.{EndStep}
 use Rattle.dccp_endpoint.specs.Inputs.{EndAnswer}
 use Rattle.dccp_endpoint.specs.UserCalls.{seen_of}
-use Rattle.dccp_endpoint.specs.Strangers.{stays_in}
+use Rattle.dccp_endpoint.specs.End.{is_begun}
 use Rattle.dccp_listener.specs.Calls.{IsStep}
 use Rattle.dccp_listener.specs.Chain.{Arrives, Calls, ChainStep, Deed, chain_step, flow_step, fresh_end, kept_until_over}
 use Rattle.dccp_listener.specs.Listens.{AreInOrder, WhatIsComputedIsARun, is_table_full, listening_after, listens_by, fresh_met, with_end}
@@ -58,7 +58,7 @@ stands-step l peer deed e found ordered =
 
 -- a fresh end meets a datagram
 meets : (l : ListenerState) (peer : Peer) (iss : ℕ) (bytes : List ℕ) → end_of_peer l.flows peer ≡ None → (stays full : Bool)
-    → stays_in (flow_step (fresh_end l.config peer iss bytes) (Arrives iss bytes)).after.state.phase ≡ stays
+    → is_begun (flow_step (fresh_end l.config peer iss bytes) (Arrives iss bytes)).after.state.phase ≡ stays
     → IsTurnSo l (record l { flows = (fresh_met l peer iss bytes (flow_step (fresh_end l.config peer iss bytes) (Arrives iss bytes)) stays full).flows })
     (record {
       peer = peer;
@@ -93,7 +93,7 @@ turn-so : (l : ListenerState) (peer : Peer) (found : Option FlowEnd) (deed : Dee
     (listens_by l peer found deed).told
 turn-so l peer (Some e) deed is ordered = stands-step l peer deed e is ordered
 turn-so l peer None (Arrives iss bytes) is ordered =
-    meets l peer iss bytes is (stays_in (flow_step (fresh_end l.config peer iss bytes) (Arrives iss bytes)).after.state.phase) (is_table_full l) refl
+    meets l peer iss bytes is (is_begun (flow_step (fresh_end l.config peer iss bytes) (Arrives iss bytes)).after.state.phase) (is_table_full l) refl
 turn-so l peer None (Calls call) is ordered =
     record {
       own = ap (λ (x : Option FlowEnd). nothing_shown x) is ∙ ap (λ (x : Option FlowEnd). chain_step l.config peer x (Calls call)) (sym is);
@@ -117,7 +117,7 @@ order-so l peer (Some e) deed ordered =
     order-with peer (flow_step e deed).after l.flows (is_closed (flow_step e deed).after.state.phase) ordered
 order-so l peer None (Arrives iss bytes) ordered =
     order-met l peer iss bytes (flow_step (fresh_end l.config peer iss bytes) (Arrives iss bytes))
-    (stays_in (flow_step (fresh_end l.config peer iss bytes) (Arrives iss bytes)).after.state.phase) (is_table_full l) ordered
+    (is_begun (flow_step (fresh_end l.config peer iss bytes) (Arrives iss bytes)).after.state.phase) (is_table_full l) ordered
 order-so l peer None (Calls call) ordered = ordered
 
 pub computed_runs : WhatIsComputedIsARun

@@ -6,7 +6,7 @@ use Rattle.dccp_endpoint.proofs.Calling.{every_step_has_an_effect}
 use Rattle.dccp_endpoint.proofs.Staying.{first-proper, proper-after}
 use Rattle.dccp_endpoint.specs.Causes.{ByCall, IsOpened, NotNow, is_waiting}
 use Rattle.dccp_endpoint.specs.Effects.{HeardNumber, Unheard, end_after}
-use Rattle.dccp_endpoint.specs.End.{EndState, IsProper, is_phase_of}
+use Rattle.dccp_endpoint.specs.End.{EndState, IsProper, is_begun, is_phase_of}
 use Rattle.dccp_endpoint.specs.Inputs.{Input, end_stepped}
 use Rattle.dccp_states.specs.declared.phase.Phase.{Phase}
 use Rattle.dccp_states.specs.declared.phase.Phase.TheVariants as phases
@@ -16,7 +16,6 @@ use Rattle.feature_machine.specs.Lists.{IsLists}
 use Rattle.seq_circle.specs.declared.memory.NoMemory.{NoMemory}
 use Rattle.dccp_states.specs.declared.seen.Seen.{Seen}
 use Rattle.dccp_packets.specs.Outgoing.{Outgoing}
-use Rattle.dccp_endpoint.specs.Strangers.{stays_in}
 use Rattle.dccp_listener.specs.Calls.{Arrived, IsStep}
 use Rattle.dccp_listener.specs.Chain.{Arrives, Calls, ChainStep, Deed, chain_step, config_for, flow_step, fresh_end, input_of_deed}
 use Rattle.dccp_listener.specs.Peers.{FlowEnd, ListenerState, end_of_peer, is_peer}
@@ -28,7 +27,7 @@ use Rattle.dccp_listener.specs.declared.peer.Peer.{Peer}
 use Rattle.dccp_listener.proofs.OnePeer.{one_peer}
 
 -- a server's end that is neither CLOSED nor in LISTEN waits for no first packet
-waits-in : (phase : Phase) (role : Role) → role ≡ roles.Server → stays_in phase ≡ true → is_phase_of phase role ≡ true → is_waiting phase ≡ true → ⊥
+waits-in : (phase : Phase) (role : Role) → role ≡ roles.Server → is_begun phase ≡ true → is_phase_of phase role ≡ true → is_waiting phase ≡ true → ⊥
 waits-in phases.Closed role server live fits waits = false≢true waits
 waits-in phases.Listen role server live fits waits = false≢true live
 waits-in phases.Request roles.Client server live fits waits = cc server
@@ -40,26 +39,20 @@ waits-in phases.CloseReq role server live fits waits = false≢true waits
 waits-in phases.Closing role server live fits waits = false≢true waits
 waits-in phases.TimeWait role server live fits waits = false≢true waits
 
-no-wait : (e : EndState) (given : Input) (opens : Bool) (hearing : HeardNumber) → e.config.role ≡ roles.Server → stays_in e.phase ≡ true → IsProper e
+no-wait : (e : EndState) (given : Input) (opens : Bool) (hearing : HeardNumber) → e.config.role ≡ roles.Server → is_begun e.phase ≡ true → IsProper e
     → IsOpened e given opens → ((is_waiting e.phase ≡ true) × (hearing ≡ Unheard)) ⊎ (opens ≡ true) → ⊥
 no-wait e given opens hearing server live proper opened (inl waits) = waits-in e.phase e.config.role server live proper.phase_fits waits.0
 no-wait e given _ hearing server live proper NotNow (inr is) = false≢true is
 no-wait e given _ hearing server live proper (ByCall call client fresh) (inr is) = cc (sym server ∙ client)
 
 -- so it never goes back to LISTEN
-stays-live : (phase : Phase) → (is_waiting phase ≡ true → ⊥) → is_closed phase ≡ false → stays_in phase ≡ true
+stays-live : (phase : Phase) → (is_waiting phase ≡ true → ⊥) → is_closed phase ≡ false → is_begun phase ≡ true
 stays-live phases.Closed not over = sym over
 stays-live phases.Listen not over = absurd (not refl)
-stays-live phases.Request not over = refl
-stays-live phases.Respond not over = refl
-stays-live phases.PartOpen not over = refl
-stays-live phases.Open not over = refl
-stays-live phases.CloseReq not over = refl
-stays-live phases.Closing not over = refl
-stays-live phases.TimeWait not over = refl
+stays-live _ not over = refl
 
-live-after : (e : EndState) (given : Input) → e.config.role ≡ roles.Server → stays_in e.phase ≡ true → IsProper e
-    → is_closed (end_stepped e given).after.phase ≡ false → stays_in (end_stepped e given).after.phase ≡ true
+live-after : (e : EndState) (given : Input) → e.config.role ≡ roles.Server → is_begun e.phase ≡ true → IsProper e
+    → is_closed (end_stepped e given).after.phase ≡ false → is_begun (end_stepped e given).after.phase ≡ true
 live-after e given server live proper over =
     let step = every_step_has_an_effect e given proper in
     let same = ap (λ (x : EndState). x.phase) step.after_is in
@@ -70,7 +63,7 @@ live-after e given server live proper over =
 
 -- the end that a step of a proper end leaves is a flow's if its phase is
 stands-after : (config : ListenConfig) (peer : Peer) (iss : ℕ) (bytes : List ℕ) (e : EndState) (given : Input) (next : FlowEnd)
-    → e.config ≡ config_for config peer iss bytes → IsProper e → next.state ≡ (end_stepped e given).after → stays_in next.state.phase ≡ true
+    → e.config ≡ config_for config peer iss bytes → IsProper e → next.state ≡ (end_stepped e given).after → is_begun next.state.phase ≡ true
     → IsFlowOf config peer next
 stands-after config peer iss bytes e given next made proper is live =
     let step = every_step_has_an_effect e given proper in
@@ -104,7 +97,7 @@ ends_stand config peer (Some e) deed lists stands =
 ends_stand config peer None (Arrives iss bytes) lists none =
     let fresh : FlowEnd = fresh_end config peer iss bytes in
     let next : FlowEnd = (flow_step fresh (Arrives iss bytes)).after in
-    if-flow config peer next (stays_in next.state.phase)
+    if-flow config peer next (is_begun next.state.phase)
     (λ live. stands-after config peer iss bytes fresh.state (input_of_deed (Arrives iss bytes) fresh.congestion) next refl
     (first-proper (config_for config peer iss bytes) lists) refl live)
 ends_stand config peer None (Calls call) lists none = tt

@@ -3,7 +3,7 @@ use Rattle.std.proofs.Common.{◌≡◌, ℕ, Bool, true, false, List, Option, N
 use Rattle.ccid_two.specs.Kinds.{Both}
 use Rattle.dccp_endpoint.specs.Controlled.{EndStep}
 use Rattle.dccp_endpoint.specs.Inputs.{EndAnswer}
-use Rattle.dccp_endpoint.specs.Strangers.{stays_in}
+use Rattle.dccp_endpoint.specs.End.{is_begun}
 use Rattle.dccp_listener.specs.Chain.{Arrives, flow_step, fresh_end}
 use Rattle.dccp_listener.specs.Greeting.{GreetingsOpen}
 use Rattle.dccp_listener.specs.Listens.{ListenerStep, fresh_met, is_table_full, listens, listens_by}
@@ -16,7 +16,7 @@ module _ (l : ListenerState) (peer : Peer) (iss : ℕ) (bytes : List ℕ) where
   step = flow_step (fresh_end l.config peer iss bytes) (Arrives iss bytes)
 
   -- the datagram opens a flow
-  opened : end_of_peer l.flows peer ≡ None → is_table_full l ≡ false → stays_in step.after.state.phase ≡ true
+  opened : end_of_peer l.flows peer ≡ None → is_table_full l ≡ false → is_begun step.after.state.phase ≡ true
       → listens l peer (Arrives iss bytes) ≡ fresh_met l peer iss bytes step true false
   opened none room stays =
       ap (λ (found : Option FlowEnd). listens_by l peer found (Arrives iss bytes)) none

@@ -10,11 +10,10 @@ use Rattle.dccp_packets.specs.declared.header.Number.TheVariants.{Long, Short}
 use Rattle.dccp_packets.specs.declared.reading.Malformed.{Malformed}
 use Rattle.dccp_sum.specs.Checksum.{checked}
 use Rattle.dccp_sum.specs.declared.packet_sum.SumFault.{SumFault}
-use Rattle.dccp_endpoint.specs.End.{EndState, new_end}
+use Rattle.dccp_endpoint.specs.End.{EndState, is_begun, new_end}
 use Rattle.dccp_endpoint.specs.Incoming.{incoming}
 use Rattle.dccp_endpoint.specs.Receiving.{by_ports, by_sum, checks_header, is_of_connection, read_number, received, receives, takes, with_own_number, with_packet}
 use Rattle.dccp_states.specs.declared.outcome.Why.{Why}
-use Rattle.dccp_endpoint.specs.Strangers.{stays_in}
 use Rattle.dccp_listener.specs.Calls.{BusyAnswersRequests, IsRequest, busy_frame, reset_by}
 use Rattle.dccp_packets.specs.ResetCodes.{number_of_code}
 use Rattle.dccp_packets.specs.declared.reset_code.ResetCode.TheVariants as codes
@@ -29,19 +28,11 @@ fresh config peer iss bytes = new_end (config_for config peer iss bytes)
 
 -- only a Request takes it out of LISTEN
 leaves-by : (config : ListenConfig) (peer : Peer) (iss : ℕ) (made bytes : List ℕ) (p : Parts) (number : ℕ) (k : Kind) → p.header.kind ≡ k
-    → stays_in (takes (fresh config peer iss made)
+    → is_begun (takes (fresh config peer iss made)
     (incoming (fresh config peer iss made) bytes (record p { header = record p.header { kind = k } }) number)).after.phase ≡ true
     → (service : ℕ) × (k ≡ kind.Request service)
 leaves-by config peer iss made bytes p number (kind.Request service) is live = (service, refl)
-leaves-by config peer iss made bytes p number (kind.Response ack service) is live = absurd (false≢true live)
-leaves-by config peer iss made bytes p number kind.Data is live = absurd (false≢true live)
-leaves-by config peer iss made bytes p number (kind.Ack ack) is live = absurd (false≢true live)
-leaves-by config peer iss made bytes p number (kind.DataAck ack) is live = absurd (false≢true live)
-leaves-by config peer iss made bytes p number (kind.CloseReq ack) is live = absurd (false≢true live)
-leaves-by config peer iss made bytes p number (kind.Close ack) is live = absurd (false≢true live)
-leaves-by config peer iss made bytes p number (kind.Reset ack code detail) is live = absurd (false≢true live)
-leaves-by config peer iss made bytes p number (kind.Sync ack) is live = absurd (false≢true live)
-leaves-by config peer iss made bytes p number (kind.SyncAck ack) is live = absurd (false≢true live)
+leaves-by config peer iss made bytes p number _ is live = absurd (false≢true live)
 
 -- a number that it reads is long
 long-by : (config : ListenConfig) (peer : Peer) (iss : ℕ) (made : List ℕ) (n : Number) (number : ℕ) → read_number (fresh config peer iss made) n ≡ Ok number
@@ -62,7 +53,7 @@ long-by-sum config peer iss made header (Err fault) number is = cc is
 
 by-number : (config : ListenConfig) (peer : Peer) (iss : ℕ) (made bytes : List ℕ) (p : Parts) (read : Result ℕ Why) → decoded bytes ≡ Ok p
     → checks_header (fresh config peer iss made) bytes p.header ≡ read
-    → stays_in (received (fresh config peer iss made) (with_own_number (fresh config peer iss made) bytes p read)).after.phase ≡ true → IsRequest bytes
+    → is_begun (received (fresh config peer iss made) (with_own_number (fresh config peer iss made) bytes p read)).after.phase ≡ true → IsRequest bytes
 by-number config peer iss made bytes p (Ok number) is numbered live =
     let asked = leaves-by config peer iss made bytes p number p.header.kind refl live in
     let long = long-by-sum config peer iss made p.header (checked (fresh config peer iss made).config.pseudo_in bytes) number numbered in
@@ -70,13 +61,13 @@ by-number config peer iss made bytes p (Ok number) is numbered live =
 by-number config peer iss made bytes p (Err why) is numbered live = absurd (false≢true live)
 
 by-packet : (config : ListenConfig) (peer : Peer) (iss : ℕ) (made bytes : List ℕ) (read : Result Parts Malformed) → decoded bytes ≡ read
-    → stays_in (received (fresh config peer iss made) (with_packet (fresh config peer iss made) bytes read)).after.phase ≡ true → IsRequest bytes
+    → is_begun (received (fresh config peer iss made) (with_packet (fresh config peer iss made) bytes read)).after.phase ≡ true → IsRequest bytes
 by-packet config peer iss made bytes (Ok p) is live =
     by-number config peer iss made bytes p (checks_header (fresh config peer iss made) bytes p.header) is refl live
 by-packet config peer iss made bytes (Err fault) is live = absurd (false≢true live)
 
 opened-by-request : (config : ListenConfig) (peer : Peer) (iss : ℕ) (made bytes : List ℕ)
-    → stays_in (receives (fresh config peer iss made) bytes).after.phase ≡ true → IsRequest bytes
+    → is_begun (receives (fresh config peer iss made) bytes).after.phase ≡ true → IsRequest bytes
 unfolding receives
 opened-by-request config peer iss made bytes live = by-packet config peer iss made bytes (decoded bytes) refl live
 

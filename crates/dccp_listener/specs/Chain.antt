@@ -21,7 +21,7 @@ use Rattle.dccp_endpoint.specs.declared.config.Config.{Config}
 use Rattle.dccp_states.specs.declared.seen.Seen.{Seen}
 use Rattle.dccp_endpoint.specs.UserCalls.{seen_of}
 use Rattle.dccp_packets.specs.Outgoing.{Outgoing}
-use Rattle.dccp_endpoint.specs.Strangers.{stays_in}
+use Rattle.dccp_endpoint.specs.End.{is_begun}
 use Rattle.dccp_listener.specs.Peers.{FlowEnd}
 use Rattle.dccp_listener.specs.declared.calls.Act.{Act}
 use Rattle.dccp_listener.specs.declared.calls.Act.TheVariants as act
@@ -111,7 +111,7 @@ fresh_end config peer iss bytes = begins kinds_control (config_for config peer i
 
 -- a fresh end stays if it has left LISTEN and is not CLOSED
 abbrev pub kept_if_open : FlowEnd → Option FlowEnd
-kept_if_open e = if stays_in e.state.phase then Some e else None
+kept_if_open e = if is_begun e.state.phase then Some e else None
 
 -- an end is given up if it is CLOSED
 abbrev pub kept_until_over : FlowEnd → Option FlowEnd

@@ -3,7 +3,7 @@ use Rattle.std.specs.Prelude.{◌≡◌, ℕ, true, false, List, Some, None}
 use Rattle.ccid_two.specs.Kinds.{Both, kinds_control}
 use Rattle.dccp_endpoint.specs.Controlled.{EndStep}
 use Rattle.dccp_endpoint.specs.Feeding.{receiving}
-use Rattle.dccp_endpoint.specs.Strangers.{stays_in}
+use Rattle.dccp_endpoint.specs.End.{is_begun}
 use Rattle.dccp_states.specs.declared.outcome.Outcome.{Outcome}
 use Rattle.dccp_listener.specs.Chain.{Arrives, fresh_end}
 use Rattle.dccp_listener.specs.Listens.{is_table_full, listens}
@@ -24,6 +24,6 @@ greets l peer iss bytes = greets_by l.config peer iss bytes
 abbrev pub GreetingsOpen : Type 0
 GreetingsOpen =
     (l : ListenerState) (peer : Peer) (iss : ℕ) (bytes : List ℕ) → end_of_peer l.flows peer ≡ None → is_table_full l ≡ false
-    → stays_in (greets l peer iss bytes).after.state.phase ≡ true
+    → is_begun (greets l peer iss bytes).after.state.phase ≡ true
     → ((listens l peer (Arrives iss bytes)).frame ≡ (greets l peer iss bytes).frame)
     × (end_of_peer (listens l peer (Arrives iss bytes)).flows peer ≡ Some (greets l peer iss bytes).after)

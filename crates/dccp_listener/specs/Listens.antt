@@ -10,7 +10,7 @@ use Rattle.dccp_endpoint.specs.Inputs.{EndAnswer}
 use Rattle.dccp_packets.specs.Grammar.{decoded}
 use Rattle.dccp_endpoint.specs.UserCalls.{seen_of}
 use Rattle.dccp_packets.specs.Outgoing.{Outgoing}
-use Rattle.dccp_endpoint.specs.Strangers.{stays_in}
+use Rattle.dccp_endpoint.specs.End.{is_begun}
 use Rattle.dccp_listener.specs.Calls.{busy_frame}
 use Rattle.dccp_listener.specs.Chain.{Arrives, Calls, Deed, config_for, flow_step, fresh_end}
 use Rattle.dccp_listener.specs.Peers.{FlowEnd, Flows, ListenerState, end_of_peer, is_peer, peer_cmp}
@@ -47,7 +47,7 @@ abbrev pub listens_by : ListenerState → Peer → Option FlowEnd → Deed → L
 listens_by l peer (Some e) deed = flow_answered (with_end l.flows peer (flow_step e deed).after) (flow_step e deed)
 listens_by l peer None (Arrives iss bytes) =
     fresh_met l peer iss bytes (flow_step (fresh_end l.config peer iss bytes) (Arrives iss bytes))
-    (stays_in (flow_step (fresh_end l.config peer iss bytes) (Arrives iss bytes)).after.state.phase) (is_table_full l)
+    (is_begun (flow_step (fresh_end l.config peer iss bytes) (Arrives iss bytes)).after.state.phase) (is_table_full l)
 listens_by l peer None (Calls call) = record { flows = l.flows; frame = None; told = Stepped None }
 
 -- a deed of a peer, if there is memory

@@ -2,8 +2,7 @@
 use Rattle.std.specs.Prelude.{◌≡◌, ◌≤◌, ℕ, true, List, length, Option, IfSome}
 use Rattle.feature_lists.specs.Lists.{is_distinct}
 use Rattle.feature_machine.specs.Lists.{IsLists, without_offers}
-use Rattle.dccp_endpoint.specs.End.{IsProper}
-use Rattle.dccp_endpoint.specs.Strangers.{stays_in}
+use Rattle.dccp_endpoint.specs.End.{IsProper, is_begun}
 use Rattle.dccp_listener.specs.Chain.{Deed, chain_step, config_for}
 use Rattle.dccp_listener.specs.Peers.{FlowEnd, Flows, end_of_peer}
 use Rattle.dccp_listener.specs.declared.config.ListenConfig.{ListenConfig}
@@ -26,7 +25,7 @@ pub record IsFlowOf (config : ListenConfig) (peer : Peer) (e : FlowEnd) : Type 0
   pub bytes : List ℕ
   pub made_for : e.state.config ≡ config_for config peer iss bytes
   pub proper : IsProper e.state
-  pub phase_is : stays_in e.state.phase ≡ true
+  pub phase_is : is_begun e.state.phase ≡ true
 
 -- There are no more flows than the limit allows, and each is an end of its peer.
 pub record IsSoundListener (config : ListenConfig) (flows : Flows) : Type 0 where

@@ -3,8 +3,7 @@ use Rattle.dccp_states.specs.Phases.{is_closed}
 use Rattle.std.proofs.Common.{◌≡◌, ◌⊎◌, inl, inr, refl, sym, ap, ◌∙◌, subst, ℕ, Bool, true, if◌then◌else◌, List, [], ◌∷◌, Option, Some, None, IfSome}
 use Rattle.std.proofs.lemmas.Bool.{false≢true}
 use Rattle.dccp_endpoint.specs.Calling.{aborts, fires}
-use Rattle.dccp_endpoint.specs.End.{EndState}
-use Rattle.dccp_endpoint.specs.Strangers.{stays_in}
+use Rattle.dccp_endpoint.specs.End.{EndState, is_begun}
 use Rattle.dccp_listener.proofs.Chains.{each_has_its_chain}
 use Rattle.dccp_listener.proofs.Computing.{computed_runs, own_left}
 use Rattle.dccp_listener.proofs.EndsStand.{ends_stand}
@@ -31,7 +30,7 @@ use Rattle.dccp_server.proofs.Tying.{through_tied}
 abbrev IsOverOrWaits : Phase → Type 0
 IsOverOrWaits phase = (phase ≡ phases.Closed) ⊎ (phase ≡ phases.TimeWait)
 
-aborted-by : (e : EndState) (phase : Phase) → e.phase ≡ phase → stays_in phase ≡ true → IsOverOrWaits (aborts e).after.phase
+aborted-by : (e : EndState) (phase : Phase) → e.phase ≡ phase → is_begun phase ≡ true → IsOverOrWaits (aborts e).after.phase
 unfolding aborts
 aborted-by e phases.Closed is stays = absurd (false≢true stays)
 aborted-by e phases.Listen is stays = absurd (false≢true stays)

@@ -10,11 +10,10 @@ use Rattle.std.specs.Prelude.{unwrap_or}
 use Rattle.ccid_two.specs.Kinds.{Both, kinds_control}
 use Rattle.congestion_trait.specs.Control.{may_send}
 use Rattle.dccp_packets.specs.Outgoing.{Outgoing}
-use Rattle.dccp_endpoint.specs.Strangers.{stays_in}
 use Rattle.dccp_endpoint.specs.Calling.{aborts, aborts_in, closes, closes_in, is_asking_now, opens, opens_as, preferring, prefers, prefers_in, prefers_so, prefers_wish, send_fault, sends_payload, sends_unless}
 use Rattle.dccp_endpoint.specs.Controlled.{with_control}
 use Rattle.dccp_endpoint.specs.Early.{early_fault, sends_early}
-use Rattle.dccp_endpoint.specs.End.{EndState, is_connected}
+use Rattle.dccp_endpoint.specs.End.{EndState, is_begun, is_connected}
 use Rattle.dccp_endpoint.specs.Inputs.{Aborted, EndAnswer, Closed, Opened, Preferred, Sent, step_shown}
 use Rattle.dccp_endpoint.specs.Steps.{Step}
 use Rattle.dccp_endpoint.specs.Turns.{Key}
@@ -141,7 +140,7 @@ live-until : (e : FlowEnd) (over : Bool) → is_closed e.state.phase ≡ over �
 live-until e true is = tt
 live-until e false is = is
 
-flow-lives : (phase : Phase) → stays_in phase ≡ true → is_closed phase ≡ false
+flow-lives : (phase : Phase) → is_begun phase ≡ true → is_closed phase ≡ false
 flow-lives phases.Closed is = absurd (false≢true is)
 flow-lives phases.Listen is = refl
 flow-lives phases.Request is = refl
@@ -152,7 +151,7 @@ flow-lives phases.CloseReq is = refl
 flow-lives phases.Closing is = refl
 flow-lives phases.TimeWait is = refl
 
-live-if : (e : FlowEnd) (stays : Bool) → stays_in e.state.phase ≡ stays → IfSome (if stays then Some e else None) IsLive
+live-if : (e : FlowEnd) (stays : Bool) → is_begun e.state.phase ≡ stays → IfSome (if stays then Some e else None) IsLive
 live-if e true is = flow-lives e.state.phase is
 live-if e false is = tt
 
@@ -162,7 +161,7 @@ chain-lives config peer (Some e) deed =
     live-until next (is_closed next.state.phase) refl
 chain-lives config peer None (Arrives iss bytes) =
     let next : FlowEnd = (flow_step (fresh_end config peer iss bytes) (Arrives iss bytes)).after in
-    live-if next (stays_in next.state.phase) refl
+    live-if next (is_begun next.state.phase) refl
 chain-lives config peer None (Calls call) = tt
 
 module _ (peer : Peer) (l : ListenerState) where

@@ -8,7 +8,7 @@ use Rattle.std.specs.List.Sorted.{IsStrictlySortedBy}
 use Rattle.std.specs.Map.{keys_of, lookup, remove_entry, set_value}
 use Rattle.std.specs.Ordering.{match_ordering}
 use Rattle.ccid_two.specs.Kinds.{Both}
-use Rattle.dccp_endpoint.specs.Strangers.{stays_in}
+use Rattle.dccp_endpoint.specs.End.{is_begun}
 use Rattle.dccp_endpoint.specs.Controlled.{EndStep}
 use Rattle.dccp_endpoint.specs.Inputs.{EndAnswer}
 use Rattle.dccp_listener.proofs.Computing.{computed_runs, own_after}
@@ -113,7 +113,7 @@ module _ {V : Type 0} (peer : Peer) (kept : List (Peer × V)) (value : FlowEnd �
       stepped l.flows (flow_step e deed).after (is_closed (flow_step e deed).after.state.phase) tied ordered (ap is_some is)
   tied_by l None (Arrives iss bytes) is tied ordered =
       met l iss bytes (flow_step (fresh_end l.config peer iss bytes) (Arrives iss bytes))
-      (stays_in (flow_step (fresh_end l.config peer iss bytes) (Arrives iss bytes)).after.state.phase) (is_table_full l) tied is
+      (is_begun (flow_step (fresh_end l.config peer iss bytes) (Arrives iss bytes)).after.state.phase) (is_table_full l) tied is
   tied_by l None (Calls call) is tied ordered = untouched l.flows tied is
 
 pub tied_after : (now : ℕ) (s : ServedListener) (peer : Peer) (deed : Deed) → keys_of s.upkeeps ≡ keys_of s.listening.flows → AreInOrder s.listening.flows

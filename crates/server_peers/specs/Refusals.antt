@@ -1,8 +1,7 @@
 -- How a server turns away, without an end, a datagram that would open a connection (own; RFC 4340, sections 5.6 and 8.3.1).
 use Rattle.std.specs.Prelude.{ℕ, Bool, List, Option, Some, None, is_some, if◌then◌else◌}
-use Rattle.dccp_endpoint.specs.End.{new_end}
+use Rattle.dccp_endpoint.specs.End.{is_begun, new_end}
 use Rattle.dccp_endpoint.specs.Receiving.{receives}
-use Rattle.dccp_endpoint.specs.Strangers.{stays_in}
 use Rattle.dccp_endpoint.specs.declared.config.Config.{Config}
 use Rattle.dccp_listener.specs.Calls.{reset_for}
 use Rattle.dccp_listener.specs.Chain.{config_for}
@@ -13,7 +12,7 @@ use Rattle.dccp_packets.specs.Outgoing.{Outgoing}
 
 -- The end of a server that has received nothing would stay, with the connection that the datagram opens.
 abbrev pub opens_by : Config → List ℕ → Bool
-opens_by config bytes = stays_in (receives (new_end config) bytes).after.phase
+opens_by config bytes = is_begun (receives (new_end config) bytes).after.phase
 
 -- what goes out: what would open a connection is refused, and all else is answered as that server would
 abbrev pub refusal_frame : ℕ → Config → List ℕ → Option Outgoing

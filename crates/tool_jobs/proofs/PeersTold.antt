@@ -4,7 +4,7 @@ use Rattle.std.proofs.Common.{◌≡◌, ◌↔◌, refl, ap, sym, ◌∙◌, su
 use Rattle.std.proofs.lemmas.Bool.{le-leb, leb-true}
 use Rattle.std.proofs.lemmas.List.{map-append}
 use Rattle.std.specs.Prelude.{IsSome, flat_map, is_some, map}
-use Rattle.dccp_endpoint.specs.Strangers.{stays_in}
+use Rattle.dccp_endpoint.specs.End.{is_begun}
 use Rattle.dccp_io.specs.Lines.{Next, End, Line, Long, Much, lines_of, next_in_lines, text_of}
 use Rattle.dccp_listener.specs.Calls.{IsBusy}
 use Rattle.dccp_listener.specs.Chain.{Arrives, Calls, Deed, chain_step, fresh_end, flow_step}
@@ -86,7 +86,7 @@ input-text most input none =
 -- the table is full, and a fresh end would stay
 
 met-busy : (l : ListenerState) (peer : Peer) (iss : ℕ) (bytes : List ℕ) → end_of_peer l.flows peer ≡ None → (stays full : Bool)
-    → stays_in (flow_step (fresh_end l.config peer iss bytes) (Arrives iss bytes)).after.state.phase ≡ stays → is_table_full l ≡ full
+    → is_begun (flow_step (fresh_end l.config peer iss bytes) (Arrives iss bytes)).after.state.phase ≡ stays → is_table_full l ≡ full
     → (fresh_met l peer iss bytes (flow_step (fresh_end l.config peer iss bytes) (Arrives iss bytes)) stays full).told ≡ WasBusy
     → IsBusy l peer (Arrives iss bytes)
 met-busy l peer iss bytes none false full stays_is full_is told = cc told
@@ -104,7 +104,7 @@ busy-so : (l : ListenerState) (peer : Peer) (found : Option FlowEnd) (deed : Dee
 busy-so l peer (Some e) deed is told = cc told
 busy-so l peer None (Calls call) is told = cc told
 busy-so l peer None (Arrives iss bytes) is told =
-    met-busy l peer iss bytes is (stays_in (flow_step (fresh_end l.config peer iss bytes) (Arrives iss bytes)).after.state.phase) (is_table_full l) refl refl told
+    met-busy l peer iss bytes is (is_begun (flow_step (fresh_end l.config peer iss bytes) (Arrives iss bytes)).after.state.phase) (is_table_full l) refl refl told
 
 kept-stays : (b : Bool) (e : FlowEnd) → IsSome (if b then Some e else None) → b ≡ true
 kept-stays true e some = refl
@@ -114,7 +114,7 @@ told-busy : (l : ListenerState) (peer : Peer) (deed : Deed) → IsBusy l peer de
 told-busy l peer (Calls call) busy = (let some = busy.would_stay in cc some)
 told-busy l peer (Arrives iss bytes) busy =
     let step = flow_step (fresh_end l.config peer iss bytes) (Arrives iss bytes) in
-    ap (λ (b : Bool). (fresh_met l peer iss bytes step b (is_table_full l)).told) (kept-stays (stays_in step.after.state.phase) step.after busy.would_stay)
+    ap (λ (b : Bool). (fresh_met l peer iss bytes step b (is_table_full l)).told) (kept-stays (is_begun step.after.state.phase) step.after busy.would_stay)
     ∙ ap (λ (b : Bool). (fresh_met l peer iss bytes step true b).told) (le-leb l.config.most (length l.flows) busy.is_table_full)
 
 pub busy-exactly : (l : ListenerState) (peer : Peer) (deed : Deed) → ((listens l peer deed).told ≡ WasBusy) ↔ IsBusy l peer deed

@@ -4,7 +4,7 @@ use Rattle.std.specs.Prelude.{IfOk, OnOk}
 use Rattle.ccid_two.specs.Kinds.{Both, kinds_control}
 use Rattle.congestion_trait.specs.Control.{may_send}
 use Rattle.dccp_packets.specs.Outgoing.{Outgoing}
-use Rattle.dccp_endpoint.specs.Strangers.{stays_in}
+use Rattle.dccp_endpoint.specs.End.{is_begun}
 use Rattle.dccp_endpoint.specs.Calling.{aborts, closes, opens, prefers, sends_payload}
 use Rattle.dccp_endpoint.specs.Early.{sends_early}
 use Rattle.dccp_endpoint.specs.Controlled.{EndStep}
@@ -51,7 +51,7 @@ listens-told : (l : ListenerState) (peer : Peer) (found : Option FlowEnd) (deed 
 listens-told l peer (Some e) deed = step-told e deed
 listens-told l peer None (Arrives iss bytes) =
     let step : EndStep Both EndAnswer = flow_step (fresh_end l.config peer iss bytes) (Arrives iss bytes) in
-    met-told l peer iss bytes step (stays_in step.after.state.phase) (is_table_full l) (step-told (fresh_end l.config peer iss bytes) (Arrives iss bytes))
+    met-told l peer iss bytes step (is_begun step.after.state.phase) (is_table_full l) (step-told (fresh_end l.config peer iss bytes) (Arrives iss bytes))
 listens-told l peer None (Calls call) = tt
 
 -- what is told as it is computed can be told
