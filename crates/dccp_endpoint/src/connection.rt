@@ -22,8 +22,9 @@ mod replying;
 mod sending;
 
 pub use calling::{MOST_DATA_BYTES, applies_in};
-pub(crate) use classes::is_open;
+pub(crate) use classes::{is_live, is_open};
 pub(crate) use early::is_part_open;
+pub use handing::reported_from;
 
 // The end to which the rows of the negotiation belong.
 fn end_of(role: Role) -> Role2

@@ -1,11 +1,11 @@
 //! The end with its congestion control.
-use crate::connection::{Connection, is_open, is_part_open};
+use crate::connection::{Connection, is_live, is_open, is_part_open};
 use crate::{
     AbortFault, CloseFault, Config, Feature, Held, Marks, OpenFault, Outcome, Phase, Place,
-    PreferFault, Pseudo, Role, SendFault, Timer,
+    PreferFault, Pseudo, Role, SendFault, Timer, Why,
 };
 use congestion_trait::{Congestion, Standing};
-use dccp_packets::{Outbox, Packet};
+use dccp_packets::{Number, Outbox, Packet};
 use seq_circle::{NoMemory, Seq48};
 use std::alloc::Global;
 use std::marker::Model;
@@ -30,8 +30,8 @@ const FIRST_CCID: u8 = 2;
 /// - `prefer` for another value of a feature, in PARTOPEN and OPEN
 /// - `close` to end the connection in order, in PARTOPEN and OPEN, and `abort` to end it at once
 /// - `act` for any of the calls above except `receive`, handed in as a value
-/// - the readers `phase`, `pseudo_out`, `marks`, `held`, `window`, `in_flight`, `is_reported`, `stands`, `floor`,
-///   `marked`, `last_taken` and `takes_short`, at any time
+/// - the readers `phase`, `is_live`, `pseudo_out`, `marks`, `held`, `window`, `in_flight`, `is_reported`, `stands`,
+///   `floor`, `marked`, `last_taken`, `takes_short` and `read_number`, at any time
 ///
 /// A feature's value, as `held` shows it, is settled for this end if its stand is Stable. That says nothing about the
 /// other end, which may hold another value until it is Stable too. The connection has ended once the phase is CLOSED
@@ -121,10 +121,10 @@ impl<C: Congestion> Endpoint<C> {
     ghost use Rattle.dccp_endpoint.specs.Calling.{aborts, applies, closes, fires, opens, prefers, sends_payload};
     ghost use Rattle.dccp_endpoint.specs.Controlled.{has_in_flight, in_flight_of, window_of, with_control};
     ghost use Rattle.dccp_endpoint.specs.Early.{sends_early, sends_soon};
-    ghost use Rattle.dccp_endpoint.specs.End.{IsProper, floor_of, held_of, is_connected, last_taken, marked_of, value_in};
+    ghost use Rattle.dccp_endpoint.specs.End.{IsProper, floor_of, held_of, is_connected, is_live, last_taken, marked_of, value_in};
     ghost use Rattle.dccp_endpoint.specs.Outcomes.{HasCause, HasEffectOf, HasNoOtherCause, OnDropped};
     ghost use Rattle.dccp_endpoint.specs.Incoming.{parts_of_packet};
-    ghost use Rattle.dccp_endpoint.specs.Receiving.{receives, takes_short};
+    ghost use Rattle.dccp_endpoint.specs.Receiving.{read_number, receives, takes_short};
     ghost use Rattle.dccp_packets.specs.Grammar.{decoded};
     ghost use Rattle.dccp_states.specs.declared.calls.Timer.TheVariants as timers;
 
@@ -133,6 +133,14 @@ impl<C: Congestion> Endpoint<C> {
         ensures { result ≡ self.now.state.phase }
     {
         self.connection.phase
+    }
+
+    /// Whether a first number was received, so that the windows judge what arrives: in RESPOND, PARTOPEN, OPEN, CLOSEREQ
+    /// and CLOSING (RFC 4340, section 8.5, steps 5 and 6).
+    pub fn is_live(&self) -> bool
+        ensures { result ≡ is_live self.now.state.phase }
+    {
+        is_live(self.connection.phase)
     }
 
     /// The addresses of the packets that it sends, for a caller that seals a frame of the end again.
@@ -222,6 +230,14 @@ impl<C: Congestion> Endpoint<C> {
         ensures { result ≡ takes_short self.now.state }
     {
         self.connection.takes_short()
+    }
+
+    /// The number of a packet in full: a short one is read near the greatest number received (RFC 4340, section 7.6).
+    /// ShortOff exactly if it is short, and short numbers are not taken.
+    pub fn read_number(&self, number: &Number) -> Result<Seq48, Why>
+        ensures { result ≡ read_number self.now.state number.now }
+    {
+        self.connection.read_number(number)
     }
 
     /// How many numbers were taken: how many marks answered New. At 2^64 - 1 it stays.

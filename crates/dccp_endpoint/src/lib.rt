@@ -29,7 +29,7 @@ mod speaking;
 mod strangers;
 
 pub use crate::config::{Config, Ports};
-pub use crate::connection::{MOST_DATA_BYTES, applies_in};
+pub use crate::connection::{MOST_DATA_BYTES, applies_in, reported_from};
 pub use crate::datagram::DecodedDatagram;
 pub use crate::endpoint::Endpoint;
 pub(crate) use crate::exit::Exit;

@@ -9,7 +9,6 @@ pub mod Session
 pub mod OneAtATime
 pub mod Listening
 pub mod Notice
-pub mod Numbers
 pub mod Path
 pub mod Reader
 pub mod Rules

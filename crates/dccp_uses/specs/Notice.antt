@@ -8,6 +8,8 @@ use Rattle.data_dropped.specs.Drops.{code_at}
 use Rattle.data_dropped.specs.Reports.{drop_report}
 use Rattle.dccp_endpoint.specs.Congesting.{reported_from}
 use Rattle.dccp_endpoint.specs.End.{EndState}
+use Rattle.dccp_endpoint.specs.Receiving.{read_number}
+use Rattle.dccp_states.specs.declared.outcome.Why.{Why}
 use Rattle.dccp_options.specs.Grammar.{Entry, options_of}
 use Rattle.dccp_options.specs.Kinds.{slow_receiver}
 use Rattle.dccp_options.specs.Vectors.{VectorReport}
@@ -22,7 +24,6 @@ use Rattle.validity_windows.specs.Verdict.{verdict}
 use Rattle.validity_windows.specs.declared.marks.Marks.{Marks}
 use Rattle.validity_windows.specs.declared.verdict.Verdict.{Verdict}
 use Rattle.validity_windows.specs.declared.verdict.Verdict.TheVariants.{Valid, SyncFor, Drop}
-use Rattle.dccp_uses.specs.Numbers.{whole_number}
 use Rattle.dccp_uses.specs.declared.notice.Drops.{Drops}
 use Rattle.dccp_uses.specs.declared.notice.Notice.{Notice}
 use Rattle.dccp_uses.specs.declared.reader.Reader.{Reader}
@@ -108,15 +109,15 @@ is_valid_verdict Drop = false
 
 -- The number from which a packet of this type reports, by its own number in full: the one that it acknowledges, near GSS if that is short
 -- (section 7.6). A Sync reports nothing, nor does a packet outside of the windows.
-abbrev pub report_base : Marks → Kind → Option ℕ → Option ℕ
-report_base marks kind None = None
-report_base marks kind (Some number) =
+abbrev pub report_base : Marks → Kind → Result ℕ Why → Option ℕ
+report_base marks kind (Err why) = None
+report_base marks kind (Ok number) =
     if is_valid_verdict (verdict marks (packet_type kind) number (ack_near marks.gss kind)) then reported_from (packet_type kind) (ack_near marks.gss kind)
     else None
 
 -- the notice of what was read
 abbrev pub notice_read : EndState → Reader → Result Parts Malformed → Notice
 notice_read e reader (Ok packet) =
-    notice_of reader (report_base e.marks packet.header.kind (whole_number e packet.header.number))
+    notice_of reader (report_base e.marks packet.header.kind (read_number e packet.header.number))
     (options_of packet.options (is_data (packet_type packet.header.kind)))
 notice_read e reader (Err fault) = no_notice

@@ -9,10 +9,11 @@ use Rattle.validity_windows.specs.declared.marks.Marks.{Marks}
 use Rattle.validity_windows.specs.declared.verdict.Verdict.{Verdict}
 use Rattle.validity_windows.specs.declared.verdict.Verdict.TheVariants.{Valid, SyncFor, Drop}
 use Rattle.dccp_endpoint.specs.End.{EndState, is_live}
+use Rattle.dccp_endpoint.specs.Receiving.{read_number}
+use Rattle.dccp_states.specs.declared.outcome.Why.{Why}
 use Rattle.path_rules.specs.Limits.{far_syncs, is_near_greatest, near_syncs, token_taken}
 use Rattle.path_rules.specs.declared.limits.TokenGrant.{TokenGrant}
 use Rattle.dccp_uses.specs.Notice.{no_notice, notice_read}
-use Rattle.dccp_uses.specs.Numbers.{whole_number}
 use Rattle.dccp_uses.specs.declared.notice.Notice.{Notice}
 use Rattle.dccp_uses.specs.declared.path.Path.{Path}
 use Rattle.dccp_uses.specs.declared.reader.Reader.{Reader}
@@ -28,13 +29,13 @@ abbrev pub wants_sync : Marks → Kind → ℕ → Bool
 wants_sync marks kind number = is_sync_verdict (verdict marks (packet_type kind) number (ack_near marks.gss kind))
 
 -- its number in full, if it would be
-abbrev pub unanswered : Marks → Kind → Option ℕ → Option ℕ
-unanswered marks kind None = None
-unanswered marks kind (Some number) = if wants_sync marks kind number then Some number else None
+abbrev pub unanswered : Marks → Kind → Result ℕ Why → Option ℕ
+unanswered marks kind (Err why) = None
+unanswered marks kind (Ok number) = if wants_sync marks kind number then Some number else None
 
 -- the same for what was read
 abbrev pub number_unanswered : EndState → Result Parts Malformed → Option ℕ
-number_unanswered e (Ok packet) = unanswered e.marks packet.header.kind (whole_number e packet.header.number)
+number_unanswered e (Ok packet) = unanswered e.marks packet.header.kind (read_number e packet.header.number)
 number_unanswered e (Err fault) = None
 
 -- the same for a datagram, if the windows judge what arrives (section 8.5, steps 5 and 6)

@@ -14,7 +14,7 @@ pub(crate) fn is_open(phase: Phase) -> bool
 }
 
 // The phases in which a first number was received.
-pub(super) fn is_live(phase: Phase) -> bool
+pub(crate) fn is_live(phase: Phase) -> bool
     ensures { result ≡ is_live phase }
 {
     matches!(

@@ -35,11 +35,12 @@ fn ratio(rows: &Negotiation) -> u16
     held.value as u16
 }
 
-// The number from which the Ack Vectors of a packet report. None for a Sync, which may acknowledge any number.
-fn reported_from(packet: &IncomingPacket<'_>) -> Option<Seq48>
-    ensures { result ≡ reported_from packet.now.kind packet.now.ack }
+/// The number from which a packet of this type reports what its sender received: the one that it acknowledges. None for
+/// a Sync, which may acknowledge any number (own; RFC 4340, section 11.4).
+pub fn reported_from(kind: PacketType, ack: Option<Seq48>) -> Option<Seq48>
+    ensures { result ≡ reported_from kind ack }
 {
-    match packet.kind {
+    match kind {
         PacketType::Sync => None,
         PacketType::Request
         | PacketType::Response
@@ -49,7 +50,7 @@ fn reported_from(packet: &IncomingPacket<'_>) -> Option<Seq48>
         | PacketType::CloseReq
         | PacketType::Close
         | PacketType::Reset
-        | PacketType::SyncAck => packet.ack,
+        | PacketType::SyncAck => ack,
     }
 }
 
@@ -58,7 +59,7 @@ fn report<C: Congestion>(packet: &IncomingPacket<'_>, rows: &Negotiation, conges
     ensures { congestion.new ≡ after_calls C.control congestion.old
         (report_calls (reported_from packet.now.kind packet.now.ack) packet.now.options (value_in rows.now feature.AckRatio place.Here)) }
 {
-    let Some(ack) = reported_from(packet) else {
+    let Some(ack) = reported_from(packet.kind, packet.ack) else {
         return;
     };
     let list = options(packet.options, packet.kind.is_data());

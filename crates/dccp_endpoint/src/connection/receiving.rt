@@ -212,7 +212,7 @@ impl Connection {
     }
 
     // The number in full: a short one is read near GSR, if short numbers are taken.
-    fn read_number(&self, number: &Number) -> Result<Seq48, Why>
+    pub(crate) fn read_number(&self, number: &Number) -> Result<Seq48, Why>
         ensures { result ≡ read_number self.now number.now }
     {
         match *number {
