@@ -8,7 +8,7 @@ use Rattle.seq_circle.specs.Circle.{distance, down}
 use Rattle.ack_vectors.specs.Coding.{coded_bytes, states_down, states_of}
 use Rattle.ack_vectors.proofs.Coded.{states-coded_bytes, states_of-append}
 use Rattle.ack_vectors.proofs.ReadBack.{slice_get-front}
-use Rattle.data_dropped.specs.Drops.{HaveCodes, all_drop_bytes, before_codes, code_at, code_at_place, code_table, codes_reported, drop_bytes, drop_code, drop_code_from, drop_coding, numbers_reached, tells_all, up_to_last_code}
+use Rattle.data_dropped.specs.Drops.{HaveCodes, all_drop_bytes, before_codes, code_at, code_at_place, code_table, codes_reported, drop_bytes, drop_code, drop_coding, last_code, numbers_reached, tells_all, up_to_last_code}
 use Rattle.data_dropped.specs.declared.drops.DropEntry.{DropEntry}
 use Rattle.data_dropped.proofs.Lawful.{IsCode, drop_lawful}
 use Rattle.data_dropped.proofs.LastCode.{code_up_to_last, none-count}
@@ -19,7 +19,7 @@ code-if : (b : Bool) (code : ℕ) (found : Option ℕ) → code < 8 → IsCode f
 code-if true code found fits before = fits
 code-if false code found fits before = before
 
-code-from : (n : ℕ) (found : Option ℕ) (drops : List DropEntry) → IsCode found → HaveCodes drops → IsCode (drop_code_from n found drops)
+code-from : (n : ℕ) (found : Option ℕ) (drops : List DropEntry) → IsCode found → HaveCodes drops → IsCode (last_code (λ (d : DropEntry). d.number == n) (λ (d : DropEntry). d.code) found drops)
 code-from n found [] before have = before
 code-from n found (d ∷ drops) before have =
     let fits : d.code < 8 = All-head (λ (e : DropEntry). e.code < 8) d drops have in

@@ -8,18 +8,18 @@ use Rattle.seq_circle.specs.Circle.{distance}
 use Rattle.ack_vectors.proofs.ByRuns.{constant-states}
 use Rattle.ack_vectors.proofs.Coded.{states_down-set}
 use Rattle.ack_vectors.proofs.ReadBack.{length-states_down, slice_get-states_down}
-use Rattle.data_dropped.specs.Drops.{code_table, drop_code, drop_code_from}
+use Rattle.data_dropped.specs.Drops.{code_table, drop_code, last_code}
 use Rattle.data_dropped.specs.declared.drops.DropEntry.{DropEntry}
 
 -- one drop more gives its number its code
-drop_code_from-push : (n : ℕ) (found : Option ℕ) (drops : List DropEntry) (d : DropEntry)
-    → drop_code_from n found (drops ++ d ∷ []) ≡ (if d.number == n then Some d.code else drop_code_from n found drops)
-drop_code_from-push n found [] d = refl
-drop_code_from-push n found (e ∷ drops) d = drop_code_from-push n (if e.number == n then Some e.code else found) drops d
+last_code-push : {Drop : Type 0} (is_meant : Drop → Bool) (code : Drop → ℕ) (found : Option ℕ) (drops : List Drop) (d : Drop)
+    → last_code is_meant code found (drops ++ d ∷ []) ≡ (if is_meant d then Some (code d) else last_code is_meant code found drops)
+last_code-push is_meant code found [] d = refl
+last_code-push is_meant code found (e ∷ drops) d = last_code-push is_meant code (if is_meant e then Some (code e) else found) drops d
 
 pub drop_code-push : (drops : List DropEntry) (d : DropEntry) (n : ℕ)
     → drop_code (drops ++ d ∷ []) n ≡ (if d.number == n then Some d.code else drop_code drops n)
-drop_code-push drops d n = drop_code_from-push n None drops d
+drop_code-push drops d n = last_code-push (λ (e : DropEntry). e.number == n) (λ (e : DropEntry). e.code) None drops d
 
 drop_code-own : (drops : List DropEntry) (d : DropEntry) → drop_code (drops ++ d ∷ []) d.number ≡ Some d.code
 drop_code-own drops d =

@@ -5,14 +5,14 @@ use Rattle.seq_circle.specs.Circle.{distance}
 use Rattle.ack_vectors.specs.Coding.{Coding, coded_bytes, states_down, states_of}
 use Rattle.data_dropped.specs.declared.drops.DropEntry.{DropEntry}
 
--- among these entries, the oldest first, the code of the last one of a number; the given code if there is none
-abbrev pub drop_code_from : ℕ → Option ℕ → List DropEntry → Option ℕ
-drop_code_from n found [] = found
-drop_code_from n found (d ∷ ds) = drop_code_from n (if d.number == n then Some d.code else found) ds
+-- among these drops, the oldest first, the code of the last one that is meant; the given code if there is none
+abbrev pub last_code : {Drop : Type 0} → (Drop → Bool) → (Drop → ℕ) → Option ℕ → List Drop → Option ℕ
+last_code is_meant code found [] = found
+last_code is_meant code found (d ∷ ds) = last_code is_meant code (if is_meant d then Some (code d) else found) ds
 
 -- the code of a number is that of its latest entry (own)
 abbrev pub drop_code : List DropEntry → ℕ → Option ℕ
-drop_code drops n = drop_code_from n None drops
+drop_code drops n = last_code (λ (d : DropEntry). d.number == n) (λ (d : DropEntry). d.code) None drops
 
 -- The codes of the 2,048 numbers from one downwards (own).
 unfoldable pub code_table : List DropEntry → ℕ → List (Option ℕ)

@@ -19,5 +19,4 @@ pub mod Through
 pub mod Timing
 pub mod Tying
 pub mod Walking
-pub mod FlowDropping
 pub mod FlowInboxing

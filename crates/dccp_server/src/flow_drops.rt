@@ -1,12 +1,11 @@
 //! Which packets of a listener's flows were reported as dropped, and why.
-ghost use Rattle.std.specs.Prelude.{◌≡◌, ◌==◌, ◌&&◌, Some, if◌then◌else◌};
-ghost use Rattle.dccp_listener.specs.Peers.{is_peer};
+ghost use Rattle.std.specs.Prelude.{◌≡◌};
 ghost use Rattle.dccp_server.specs.FlowDrops.{flow_drop_code, flow_record_after, flow_recorded};
 
 use circular_buffer::HeapCircularBuffer;
 use dccp_endpoint::{DecodedDatagram, NoMemory, Seq48};
 use dccp_listener::Peer;
-use dccp_uses::{DropLog, MOST_DROPS, Reader, record_heard};
+use dccp_uses::{DropLog, DropMark, MOST_DROPS, Reader, last_code, record_heard};
 use server_peers::is_peer;
 use std::alloc::Global;
 use std::marker::Model;
@@ -73,7 +72,7 @@ impl FlowDropRecord {
     pub fn code(&self, peer: Peer, number: Seq48) -> Option<u8>
         ensures { result ≡ flow_drop_code self.now peer number }
     {
-        code_of(&self.drops, peer, number)
+        last_code(&self.drops, peer, number)
     }
 }
 
@@ -87,26 +86,21 @@ impl DropLog for FlowDropRecord {
     }
 }
 
-// The code of this drop, if it is of the peer's number, otherwise the one found before.
-fn found_in(found: Option<u8>, drop: &FlowDrop, peer: Peer, number: Seq48) -> Option<u8>
-    ensures { result ≡ (if is_peer peer drop.now.peer && drop.now.number == number then Some drop.now.code else found) }
-{
-    if is_peer(peer, drop.peer) && drop.number == number {
-        Some(drop.code)
-    } else {
-        found
-    }
-}
+impl DropMark for FlowDrop {
+    ghost use Rattle.std.specs.Prelude.{◌==◌, ◌&&◌};
+    ghost use Rattle.dccp_listener.specs.Peers.{is_peer};
 
-// The code of the last drop of a peer's number among these.
-fn code_of(drops: &HeapCircularBuffer<FlowDrop>, peer: Peer, number: Seq48) -> Option<u8>
-    ensures { result ≡ flow_drop_code drops.now.items peer number }
-{
-    let mut found = None;
-    for index in 0..drops.len() {
-        if let Some(drop) = drops.get(index) {
-            found = found_in(found, drop, peer, number);
-        }
+    type Key = Peer;
+
+    ghost is_meant = { λ peer number it. is_peer peer it.peer && it.number == number };
+
+    ghost code_kept = { λ it. it.code };
+
+    fn is_of(&self, peer: Peer, number: Seq48) -> bool {
+        is_peer(peer, self.peer) && self.number == number
     }
-    found
+
+    fn code(&self) -> u8 {
+        self.code
+    }
 }

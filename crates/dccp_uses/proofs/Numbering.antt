@@ -1,17 +1,13 @@
 -- The numbers that a report is read for, one after another.
-use Rattle.std.proofs.Common.{◌≡◌, refl, sym, subst, ap, ◌∙◌, ℕ, ◌+◌, ◌-◌, ◌<◌, ◌≤◌, ◌==◌, suc, Bool, true, false, cond, ◌&&◌, ◌||◌, List, [], ◌∷◌, ◌++◌, length, take, get_or, slice_get, count_by, Option, Some, None, Result, Ok, Err, arith, if◌then◌else◌}
+use Rattle.std.proofs.Common.{◌≡◌, refl, sym, subst, ap, ◌∙◌, ℕ, ◌+◌, ◌-◌, ◌<◌, ◌≤◌, suc, Bool, true, false, cond, ◌&&◌, ◌||◌, List, [], ◌∷◌, count_by, Option, Some, None, Result, Ok, Err, arith}
 use Rattle.std.specs.List.{concat, list_any}
 use Rattle.std.proofs.Math.Bool.{or_assoc}
-use Rattle.std.proofs.lemmas.List.{take_more}
 use Rattle.std.proofs.lemmas.List.Sums.{sum_by-cons}
-use Rattle.std.proofs.lemmas.Option.{get_or_from_slice_get, slice_get_within}
 use Rattle.ack_vectors.specs.Coding.{states_down}
 use Rattle.congestion_trait.specs.Flight.{is_past}
 use Rattle.congestion_trait.specs.Walk.{one_if}
-use Rattle.data_dropped.specs.Drops.{code_at, drop_code}
+use Rattle.data_dropped.specs.Drops.{code_at}
 use Rattle.data_dropped.specs.Reports.{drop_options}
-use Rattle.data_dropped.specs.declared.drops.DropEntry.{DropEntry}
-use Rattle.data_dropped.proofs.Table.{drop_code-push}
 use Rattle.dccp_options.specs.Grammar.{options_of}
 use Rattle.dccp_options.specs.Vectors.{VectorReport, joined_report}
 use Rattle.dccp_packets.specs.Grammar.{Parts, decoded, packet_type}
@@ -101,13 +97,3 @@ module _ {R : Type 0} (one : ℕ → ℕ → R → R) (counted : Option ℕ) (ac
 
   pub nothing_new : (bytes : List ℕ) → record_after one counted (Some ack) bytes drops ≡ drops
   nothing_new bytes = nothing-read (decoded bytes)
-
--- the code that is found so far is that of the drops so far
-pub found_one_more : (items : List DropEntry) (i n : ℕ) (d : DropEntry) (found : Option ℕ) → slice_get items i ≡ Some d → found ≡ drop_code (take i items) n
-    → (if d.number == n then Some d.code else found) ≡ drop_code (take (i + 1) items) n
-found_one_more items i n d found there is =
-    let inside : i < length items = slice_get_within items i d there in
-    let item : get_or items i d ≡ d = get_or_from_slice_get items i d d there in
-    let more : take (i + 1) items ≡ take i items ++ d ∷ [] = take_more items i d inside ∙ ap (λ (x : DropEntry). take i items ++ x ∷ []) item in
-    ap (λ (it : Option ℕ). if d.number == n then Some d.code else it) is ∙ sym (drop_code-push (take i items) d n)
-    ∙ sym (ap (λ (xs : List DropEntry). drop_code xs n) more)

@@ -1,6 +1,6 @@
 //! Which packets were reported as dropped, and why.
-ghost use Rattle.std.specs.Prelude.{◌≡◌, ◌==◌, ℕ, Some, if◌then◌else◌};
-ghost use Rattle.data_dropped.specs.Drops.{drop_code};
+ghost use Rattle.std.specs.Prelude.{◌≡◌, ℕ, Bool, None, Some};
+ghost use Rattle.data_dropped.specs.Drops.{drop_code, last_code};
 ghost use Rattle.dccp_packets.specs.Grammar.{decoded};
 ghost use Rattle.dccp_uses.specs.DropRecord.{drop_recorded, packet_recorded, record_after, report_recorded};
 
@@ -27,6 +27,26 @@ pub trait DropLog {
     /// Adds one more drop, which may replace the oldest.
     fn note(&mut self, key: Self::Key, number: Seq48, code: u8)
         ensures { self.new ≡ recorded key number code self.old };
+}
+
+/// A drop as a record keeps it (own).
+pub trait DropMark {
+    /// The key of an end.
+    type Key: Copy;
+
+    // It is of this number's packet of the end with this key.
+    ghost is_meant: { Self.Key → ℕ → Self → Bool };
+
+    // Its Drop Code.
+    ghost code_kept: { Self → ℕ };
+
+    /// Whether it is of this number's packet of the end with this key.
+    fn is_of(&self, key: Self::Key, number: Seq48) -> bool
+        ensures { result ≡ is_meant key number self.now };
+
+    /// Its Drop Code.
+    fn code(&self) -> u8
+        ensures { result ≡ code_kept self.now };
 }
 
 // The drops that a report is the first to name.
@@ -137,7 +157,7 @@ impl DropRecord {
     pub fn code(&self, number: Seq48) -> Option<u8>
         ensures { result ≡ drop_code self.now number }
     {
-        code_of(&self.drops, number)
+        last_code(&self.drops, (), number)
     }
 }
 
@@ -151,25 +171,36 @@ impl DropLog for DropRecord {
     }
 }
 
-// The code of this drop, if it is of the number, otherwise the one found before.
-fn found_in(found: Option<u8>, drop: &DropEntry, number: Seq48) -> Option<u8>
-    ensures { result ≡ (if drop.now.number == number then Some drop.now.code else found) }
-{
-    if drop.number == number {
-        Some(drop.code)
-    } else {
-        found
+impl DropMark for DropEntry {
+    ghost use Rattle.std.specs.Prelude.{◌==◌};
+
+    type Key = ();
+
+    ghost is_meant = { λ key number it. it.number == number };
+
+    ghost code_kept = { λ it. it.code };
+
+    fn is_of(&self, _key: (), number: Seq48) -> bool {
+        self.number == number
+    }
+
+    fn code(&self) -> u8 {
+        self.code
     }
 }
 
-// The code of the last drop of a number among these.
-fn code_of(drops: &HeapCircularBuffer<DropEntry>, number: Seq48) -> Option<u8>
-    ensures { result ≡ drop_code drops.now.items number }
+/// The code of the last of these drops that is of this number's packet of the end with this key.
+pub fn last_code<D: DropMark>(
+    drops: &HeapCircularBuffer<D>,
+    key: D::Key,
+    number: Seq48,
+) -> Option<u8>
+    ensures { result ≡ last_code (D.is_meant key number) D.code_kept None drops.now.items }
 {
     let mut found = None;
-    for index in 0..drops.len() {
-        if let Some(drop) = drops.get(index) {
-            found = found_in(found, drop, number);
+    for drop in drops.iter() {
+        if drop.is_of(key, number) {
+            found = Some(drop.code());
         }
     }
     found

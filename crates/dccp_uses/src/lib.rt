@@ -45,7 +45,7 @@ pub use crate::additive_window::AdditiveWindow;
 pub use crate::alarms::{Alarm, Alarms, Condition, has_run_out, sooner, starting_wait};
 pub use crate::anew::{refuses_sync, sync_refused};
 pub use crate::client_cookie::ClientCookie;
-pub use crate::drop_record::{DropLog, DropRecord, MOST_DROPS, record_heard};
+pub use crate::drop_record::{DropLog, DropMark, DropRecord, MOST_DROPS, last_code, record_heard};
 pub use crate::holding::{Reading, give_back, settle_heard, speak};
 pub use crate::laws::{classic_is_the_session, rules_are_inputs};
 pub use crate::listening::accept;

@@ -7,7 +7,7 @@ use Rattle.std.proofs.lemmas.List.Elements.{Contains-append_cases, Contains-appe
 use Rattle.std.proofs.lemmas.Option.{same_Some}
 use Rattle.std.specs.Result.{result_ok}
 use Rattle.congestion_trait.specs.Control.{Control}
-use Rattle.data_dropped.specs.Drops.{HaveCodes, code_at, drop_code, drop_code_from}
+use Rattle.data_dropped.specs.Drops.{HaveCodes, code_at, drop_code, last_code}
 use Rattle.data_dropped.specs.EndHistory.{data_call}
 use Rattle.data_dropped.specs.Frames.{acknowledged_by}
 use Rattle.data_dropped.specs.History.{History, IsAccounted, Stops, history_after, history_answered}
@@ -86,7 +86,8 @@ take-front [] ys = refl
 take-front (x ∷ xs) ys = ap (λ (zs : List _). x ∷ zs) (take-front xs ys)
 
 -- a code that counts is one that was noted
-code-among : (drops : List DropEntry) (n : ℕ) (found : Option ℕ) (code : ℕ) → drop_code_from n found drops ≡ Some code
+code-among : (drops : List DropEntry) (n : ℕ) (found : Option ℕ) (code : ℕ)
+    → last_code (λ (d : DropEntry). d.number == n) (λ (d : DropEntry). d.code) found drops ≡ Some code
     → (found ≡ Some code) ⊎ Contains (drop_numbers drops) n
 code-among [] n found code is = inl is
 code-among (d ∷ ds) n found code is =
@@ -310,16 +311,10 @@ module _ (effects : EveryStepHasOneEffect) (half : Half) (proper : IsProper half
 
   pub step-true : (bytes : List ℕ) (s : Seen) → Delivers s
       → IsTrueSide after (inbox_after x (inbox_calls x.past.held (last_taken after.end) bytes s) (length half.frames) after)
-  step-true bytes (seen.Called result) delivers = quiet-true
-  step-true bytes (seen.Fired applies) delivers = quiet-true
-  step-true bytes (seen.Received (Took None)) delivers = quiet-true
   step-true bytes (seen.Received (Took (Some place))) delivers =
       let so = delivers place refl in
       data-true (last_taken after.end) so.0 so.1 (fits_item x.past.held (slice_range bytes place.0 place.1)) (slice_range bytes place.0 place.1)
-  step-true bytes (seen.Received (Dropped why)) delivers = quiet-true
-  step-true bytes (seen.Received (Synced number)) delivers = quiet-true
-  step-true bytes (seen.Received (WasReset code)) delivers = quiet-true
-  step-true bytes (seen.Received (SentReset code detail)) delivers = quiet-true
+  step-true bytes _ delivers = quiet-true
 
 -- Where an outcome delivers, the number that its packet has is the one that was taken last.
 record LastOf (e : EndState) (bytes : List ℕ) (f : Effect) : Type 0 where
@@ -374,13 +369,7 @@ record TookSome (s : Seen) : Type 0 where
 
 took-some : (s : Seen) → seen_anywhere s ≡ seen.Received (Took (Some (0, 0))) → TookSome s
 took-some (seen.Received (Took (Some place))) same = record { place = place; is = refl }
-took-some (seen.Received (Took None)) same = cc same
-took-some (seen.Received (Dropped why)) same = cc same
-took-some (seen.Received (Synced number)) same = cc same
-took-some (seen.Received (WasReset code)) same = cc same
-took-some (seen.Received (SentReset code detail)) same = cc same
-took-some (seen.Called result) same = cc same
-took-some (seen.Fired applies) same = cc same
+took-some _ same = cc same
 
 newly-one : (b : Bool) (arrived : Option ℕ) (m d : ℕ) → arrived ≡ Some m → number_if b arrived ≡ d ∷ [] → m ≡ d
 newly-one true arrived m d is same = let one : m ∷ [] ≡ d ∷ [] = sym (ap (number_if true) is) ∙ same in cc one
@@ -433,13 +422,7 @@ module _ {C : Type 0} (control : Control C) (w : ControlledWorld C) (h : IsHeld 
   added : (v : WorldState) (f : Event) → e ≡ f → DeliversIn w.world f v place
       → (d : ℕ) × ((half_of v (actor f)).processed ≡ (half_of w.world (actor f)).processed ++ d ∷ [])
   added v (event.Deliver from index) is its = (its.frame.number, its.is_processed)
-  added v event.Open is its = absurd its
-  added v (event.Send side payload) is its = absurd its
-  added v (event.SendEarly side payload) is its = absurd its
-  added v (event.Prefer side feature located values) is its = absurd its
-  added v (event.Timer side timer) is its = absurd its
-  added v (event.Close side) is its = absurd its
-  added v (event.Abort side) is its = absurd its
+  added v _ is its = absurd its
 
   pub processed-now : (next.processed ≡ half.processed ++ last_taken next.end ∷ []) × (Contains half.processed (last_taken next.end) → ⊥)
   processed-now =
