@@ -17,14 +17,15 @@ use Rattle.dccp_uses.specs.Timed.{TimedState, TimedStep, timed_takes}
 use Rattle.dccp_uses.specs.declared.news.News.{News}
 use Rattle.dccp_uses.specs.declared.news.News.TheVariants as news
 
-pub step_handed : {C N Answer : Type 0} (sends : N → List ℕ → N → Type 0) (step : TimedStep C Answer) (new : TimedState C) (h : HoldingState C)
-    (out : Option Outgoing) (before after : N) (answer : Answer)
-    → record { timed = new; frame = out; answer = answer } ≡ step
+pub step_handed : {C N Answer : Type 0} (sends : N → List ℕ → N → Type 0) (step : TimedState C → TimedStep C Answer) (h old : HoldingState C) → h ≡ old
+    → (new : TimedState C) (out : Option Outgoing) (before after : N) (answer : Answer)
+    → record { timed = new; frame = out; answer = answer } ≡ step h.timed
     → Hands sends before (holding_frame (record h { timed = new }) out) after
-    → Does sends (steps_beside h step) (record h { timed = new }) before after answer
-step_handed {C} {N} {Answer} sends step new h out before after answer is hands =
-    subst (λ (s : TimedStep C Answer). Does sends (steps_beside h s) (record h { timed = new }) before after answer) is
-    (record { session_is = refl; handed = hands; answer_is = refl })
+    → Does sends (steps_beside old (step old.timed)) (record h { timed = new }) before after answer
+step_handed {C} {N} {Answer} sends step h old same new out before after answer is hands =
+    subst (λ (x : HoldingState C). Does sends (steps_beside x (step x.timed)) (record h { timed = new }) before after answer) same
+    (subst (λ (s : TimedStep C Answer). Does sends (steps_beside h s) (record h { timed = new }) before after answer) is
+    (record { session_is = refl; handed = hands; answer_is = refl }))
 
 -- the cookie and the news by the phases before and after the datagram
 kept-as : (was is before after : Phase) (read bytes cookie : List ℕ) → was ≡ before → is ≡ after → read ≡ bytes

@@ -79,11 +79,8 @@ ended-news false code first past is = cc is
 pub news_within : (e : EndState) (bytes : List ℕ) (outcome : Outcome) (was now : Phase) (first past : ℕ) → HasCause e bytes outcome
     → news_of outcome was now ≡ news.Data first past → (first ≤ past) × (past ≤ length bytes)
 news_within e bytes (Took (Some place)) was now first past cause is = data-news place first past is bytes (taken-within e bytes place cause)
-news_within e bytes (Took None) was now first past cause is = cc is
-news_within e bytes (Dropped why) was now first past cause is = cc is
-news_within e bytes (Synced number) was now first past cause is = cc is
-news_within e bytes (WasReset code) was now first past cause is = cc is
 news_within e bytes (SentReset code detail) was now first past cause is = absurd (ended-news (has_closed was now) code first past is)
+news_within e bytes _ was now first past cause is = cc is
 
 ended-short : (ended : Bool) (code : ℕ) → (if ended then news.Ended code else news.Quiet) ≡ news.TooLong → ⊥
 ended-short true code is = cc is
@@ -99,11 +96,8 @@ news_inside e bytes None was now first past cause is = cc is
 -- No outcome says that the bytes were too long.
 pub never_too_long : (outcome : Outcome) (was now : Phase) → news_of outcome was now ≡ news.TooLong → ⊥
 never_too_long (Took (Some place)) was now is = cc is
-never_too_long (Took None) was now is = cc is
-never_too_long (Dropped why) was now is = cc is
-never_too_long (Synced number) was now is = cc is
-never_too_long (WasReset code) was now is = cc is
 never_too_long (SentReset code detail) was now is = ended-short (has_closed was now) code is
+never_too_long _ was now is = cc is
 
 -- nor does a datagram that was left out
 pub never_said_long : (outcome : Option Outcome) (was now : Phase) → news_if outcome was now ≡ news.TooLong → ⊥

@@ -30,60 +30,30 @@ use Rattle.dccp_uses.proofs.Ringing.{arranged_stays, back_runs, fresh_runs, told
 told-keeps : (waits : Waits) (alarms : Alarms) (told timer : Timer) (now : ℕ) → has_run_out (alarm_of alarms timer) now ≡ false
     → has_run_out (alarm_of (rung_by waits alarms told now) timer) now ≡ false
 told-keeps waits alarms timers.Request timers.Request now quiet = back_runs waits.request alarms.request now
-told-keeps waits alarms timers.Request timers.Ack now quiet = quiet
-told-keeps waits alarms timers.Request timers.Negotiate now quiet = quiet
-told-keeps waits alarms timers.Request timers.Rto now quiet = quiet
-told-keeps waits alarms timers.Request timers.Close now quiet = quiet
-told-keeps waits alarms timers.Request timers.TimeWait now quiet = quiet
-told-keeps waits alarms timers.Ack timers.Request now quiet = quiet
 told-keeps waits alarms timers.Ack timers.Ack now quiet = back_runs waits.ack alarms.ack now
-told-keeps waits alarms timers.Ack timers.Negotiate now quiet = quiet
-told-keeps waits alarms timers.Ack timers.Rto now quiet = quiet
-told-keeps waits alarms timers.Ack timers.Close now quiet = quiet
-told-keeps waits alarms timers.Ack timers.TimeWait now quiet = quiet
-told-keeps waits alarms timers.Negotiate timers.Request now quiet = quiet
-told-keeps waits alarms timers.Negotiate timers.Ack now quiet = quiet
 told-keeps waits alarms timers.Negotiate timers.Negotiate now quiet = back_runs waits.negotiate alarms.negotiate now
-told-keeps waits alarms timers.Negotiate timers.Rto now quiet = quiet
-told-keeps waits alarms timers.Negotiate timers.Close now quiet = quiet
-told-keeps waits alarms timers.Negotiate timers.TimeWait now quiet = quiet
-told-keeps waits alarms timers.Rto timers.Request now quiet = quiet
-told-keeps waits alarms timers.Rto timers.Ack now quiet = quiet
-told-keeps waits alarms timers.Rto timers.Negotiate now quiet = quiet
 told-keeps waits alarms timers.Rto timers.Rto now quiet = back_runs waits.rto alarms.rto now
-told-keeps waits alarms timers.Rto timers.Close now quiet = quiet
-told-keeps waits alarms timers.Rto timers.TimeWait now quiet = quiet
-told-keeps waits alarms timers.Close timers.Request now quiet = quiet
-told-keeps waits alarms timers.Close timers.Ack now quiet = quiet
-told-keeps waits alarms timers.Close timers.Negotiate now quiet = quiet
-told-keeps waits alarms timers.Close timers.Rto now quiet = quiet
 told-keeps waits alarms timers.Close timers.Close now quiet = back_runs waits.close alarms.close now
-told-keeps waits alarms timers.Close timers.TimeWait now quiet = quiet
-told-keeps waits alarms timers.TimeWait timers.Request now quiet = quiet
-told-keeps waits alarms timers.TimeWait timers.Ack now quiet = quiet
-told-keeps waits alarms timers.TimeWait timers.Negotiate now quiet = quiet
-told-keeps waits alarms timers.TimeWait timers.Rto now quiet = quiet
-told-keeps waits alarms timers.TimeWait timers.Close now quiet = quiet
 told-keeps waits alarms timers.TimeWait timers.TimeWait now quiet = back_runs waits.time_wait alarms.time_wait now
+told-keeps waits alarms _ timers.Request now quiet = quiet
+told-keeps waits alarms _ timers.Ack now quiet = quiet
+told-keeps waits alarms _ timers.Negotiate now quiet = quiet
+told-keeps waits alarms _ timers.Rto now quiet = quiet
+told-keeps waits alarms _ timers.Close now quiet = quiet
+told-keeps waits alarms _ timers.TimeWait now quiet = quiet
 
 -- a wish has negotiate begin anew
 wish-keeps : (alarms : Alarms) (timer : Timer) (now : ℕ) → has_run_out (alarm_of alarms timer) now ≡ false
     → has_run_out (alarm_of (record alarms { negotiate = None }) timer) now ≡ false
-wish-keeps alarms timers.Request now quiet = quiet
-wish-keeps alarms timers.Ack now quiet = quiet
 wish-keeps alarms timers.Negotiate now quiet = refl
-wish-keeps alarms timers.Rto now quiet = quiet
-wish-keeps alarms timers.Close now quiet = quiet
-wish-keeps alarms timers.TimeWait now quiet = quiet
+wish-keeps alarms _ now quiet = quiet
 
 rule-keeps : (waits : Waits) (alarms : Alarms) (it : Rule) (timer : Timer) (now : ℕ) → has_run_out (alarm_of alarms timer) now ≡ false
     → has_run_out (alarm_of (alarms_by_rule waits alarms it now) timer) now ≡ false
 rule-keeps waits alarms rule.Nothing timer now quiet = quiet
 rule-keeps waits alarms rule.GiveUp timer now quiet = quiet
 rule-keeps waits alarms rule.TimeOut timer now quiet = told-keeps waits alarms timers.Rto timer now quiet
-rule-keeps waits alarms rule.Probe timer now quiet = wish-keeps alarms timer now quiet
-rule-keeps waits alarms rule.Ask timer now quiet = wish-keeps alarms timer now quiet
-rule-keeps waits alarms rule.Ratio timer now quiet = wish-keeps alarms timer now quiet
+rule-keeps waits alarms _ timer now quiet = wish-keeps alarms timer now quiet
 
 -- no rule is due in the millisecond in which one was
 rules-rest : (left : Option ℕ) (now : ℕ) → has_run_out (rules_alarm left 1 now) now ≡ false

@@ -10,23 +10,22 @@ use Rattle.dccp_uses.specs.declared.path.Path.{Path}
 use Rattle.dccp_uses.specs.declared.upkeep.Upkeep.{Upkeep}
 
 -- a step of the end, and what is kept of it by that step
-pub stepped_as : {C Answer : Type 0} (end : End C) (frame : Option Outgoing) (answer : Answer) (step : EndStep C Answer) (upkeep : Upkeep)
-    (kept : EndStep C Answer → Upkeep)
-    → record { after = end; frame = frame; answer = answer } ≡ step
-    → upkeep ≡ kept (record { after = end; frame = frame; answer = answer })
-    → record { timed = record { end = end; upkeep = upkeep }; frame = frame; answer = answer } ≡ timed_step (kept step) step
-stepped_as {C} {Answer} end frame answer step upkeep kept step_is kept_is =
+pub stepped_as : {C Answer : Type 0} (s old : TimedState C) → s ≡ old → (step : TimedState C → EndStep C Answer)
+    (kept : TimedState C → EndStep C Answer → Upkeep) (end : End C) (frame : Option Outgoing) (answer : Answer) (upkeep : Upkeep)
+    → record { after = end; frame = frame; answer = answer } ≡ step s
+    → upkeep ≡ kept s (record { after = end; frame = frame; answer = answer })
+    → record { timed = record { end = end; upkeep = upkeep }; frame = frame; answer = answer } ≡ timed_step (kept old (step old)) (step old)
+stepped_as {C} {Answer} s old same step kept end frame answer upkeep step_is kept_is =
     ap (λ (u : Upkeep). timed_step u (record { after = end; frame = frame; answer = answer })) kept_is
-    ∙ ap (λ (x : EndStep C Answer). timed_step (kept x) x) step_is
+    ∙ ap (λ (x : EndStep C Answer). timed_step (kept s x) x) step_is ∙ ap (λ (t : TimedState C). timed_step (kept t (step t)) (step t)) same
 
 -- a call that the end took, where this was its state
-pub called_as : {C Fault : Type 0} (s x : TimedState C) (calls : TimedState C → EndStep C (Result (Unit {0}) Fault)) (kept : Upkeep → End C → Upkeep)
-    (end : End C) (frame : Option Outgoing) (done : Unit {0}) (upkeep : Upkeep)
-    → s ≡ x
+pub called_as : {C Fault : Type 0} (s x : TimedState C) → s ≡ x → (calls : TimedState C → EndStep C (Result (Unit {0}) Fault))
+    (kept : Upkeep → End C → Upkeep) (end : End C) (frame : Option Outgoing) (done : Unit {0}) (upkeep : Upkeep)
     → record { after = end; frame = frame; answer = Ok done } ≡ calls s
     → upkeep ≡ kept s.upkeep end
     → record { timed = record { end = end; upkeep = upkeep }; frame = frame; answer = Ok done } ≡ timed_calls x kept (calls x)
-called_as {C} {Fault} s x calls kept end frame done upkeep is step_is kept_is =
+called_as {C} {Fault} s x is calls kept end frame done upkeep step_is kept_is =
     ap (λ (u : Upkeep). timed_step u (record { after = end; frame = frame; answer = Ok done })) kept_is
     ∙ ap (λ (step : EndStep C (Result (Unit {0}) Fault)). timed_calls s kept step) step_is
     ∙ ap (λ (t : TimedState C). timed_calls t kept (calls t)) is

@@ -79,24 +79,12 @@ pub(crate) fn news_kept(arrival: Option<Arrival>, told: News) -> News
 pub(crate) fn is_delivery(outcome: &Outcome) -> bool
     ensures { result ≡ is_delivery outcome.now }
 {
-    match *outcome {
-        Outcome::Took { delivered } => delivered.is_some(),
-        Outcome::Dropped(_)
-        | Outcome::Synced(_)
-        | Outcome::WasReset(_)
-        | Outcome::SentReset { .. } => false,
-    }
+    matches!(outcome, Outcome::Took { delivered: Some(_) })
 }
 
 /// Whether the packet was taken.
 pub fn is_taken(outcome: &Outcome) -> bool
     ensures { result ≡ is_taken outcome.now }
 {
-    match *outcome {
-        Outcome::Took { .. } => true,
-        Outcome::Dropped(_)
-        | Outcome::Synced(_)
-        | Outcome::WasReset(_)
-        | Outcome::SentReset { .. } => false,
-    }
+    matches!(outcome, Outcome::Took { .. })
 }

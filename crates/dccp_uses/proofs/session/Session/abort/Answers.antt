@@ -1,17 +1,8 @@
-use Rattle.std.proofs.Common.{subst}
-use Rattle.dccp_uses.specs.Holding.{HoldingState, steps_beside}
-use Rattle.dccp_uses.specs.Sessions.{Does}
 use Rattle.dccp_uses.specs.Timed.{timed_aborts}
 use Rattle.dccp_uses.proofs.Beside.{step_handed}
 use Rattle.dccp_uses.proofs.session.Session.abort.Goals as goal
 
 pub returns-clause-does : goal.returns-clause-does
 returns-clause-does g c =
-    let control = g.C.Congestion.control in
-    let h : HoldingState _ = record { timed = c.self.inside.timed; inbox = c.self.inside.intake; cookie = c.self.inside.cookie } in
-    subst
-    (λ (x : HoldingState _). Does g.N.Network.sends (steps_beside x (timed_aborts control c.args.now x.timed))
-    (record h { timed = c.abort-answer.new.self }) c.args.network.now c.hand.new.network c.abort-answer.result)
-    c.self.view_is
-    (step_handed g.N.Network.sends (timed_aborts control c.args.now h.timed) c.abort-answer.new.self h
-    c.abort-answer.new.out c.args.network.now c.hand.new.network c.abort-answer.result c.abort-answer.ensures.step c.hand.ensures.handed)
+    step_handed g.N.Network.sends (timed_aborts g.C.Congestion.control c.args.now) _ _ c.self.view_is _ _ _ _ _ c.abort-answer.ensures.step
+    c.hand.ensures.handed

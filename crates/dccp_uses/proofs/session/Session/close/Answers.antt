@@ -1,17 +1,8 @@
-use Rattle.std.proofs.Common.{subst}
-use Rattle.dccp_uses.specs.Holding.{HoldingState, steps_beside}
-use Rattle.dccp_uses.specs.Sessions.{Does}
 use Rattle.dccp_uses.specs.Timed.{timed_closes}
 use Rattle.dccp_uses.proofs.Beside.{step_handed}
 use Rattle.dccp_uses.proofs.session.Session.close.Goals as goal
 
 pub returns-clause-does : goal.returns-clause-does
 returns-clause-does g c =
-    let control = g.C.Congestion.control in
-    let h : HoldingState _ = record { timed = c.self.inside.timed; inbox = c.self.inside.intake; cookie = c.self.inside.cookie } in
-    subst
-    (λ (x : HoldingState _). Does g.N.Network.sends (steps_beside x (timed_closes control c.args.now x.timed))
-    (record h { timed = c.close-answer.new.self }) c.args.network.now c.hand.new.network c.close-answer.result)
-    c.self.view_is
-    (step_handed g.N.Network.sends (timed_closes control c.args.now h.timed) c.close-answer.new.self h
-    c.close-answer.new.out c.args.network.now c.hand.new.network c.close-answer.result c.close-answer.ensures.step c.hand.ensures.handed)
+    step_handed g.N.Network.sends (timed_closes g.C.Congestion.control c.args.now) _ _ c.self.view_is _ _ _ _ _ c.close-answer.ensures.step
+    c.hand.ensures.handed

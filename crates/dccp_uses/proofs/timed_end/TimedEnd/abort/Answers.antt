@@ -8,6 +8,5 @@ use Rattle.dccp_uses.proofs.timed_end.TimedEnd.abort.Goals as goal
 pub returns-clause-step : goal.returns-clause-step
 returns-clause-step g c =
     let control = g.C.Congestion.control in
-    called_as (record { end = c.self.inside.end; upkeep = c.self.inside.upkeep }) c.args.self.now
-    (λ (s : TimedState _). with_control control s.end.congestion (aborts s.end.state)) (kept_called control c.args.now)
-    c.abort.new.self c.abort.new.out c.in_ok-abort.field-0 c.go_on.new.self c.self.view_is c.in_ok-abort.ensures.step c.go_on.ensures
+    called_as _ _ c.self.view_is (λ (s : TimedState _). with_control control s.end.congestion (aborts s.end.state)) (kept_called control c.args.now) _ _ _ _
+    c.in_ok-abort.ensures.step c.go_on.ensures

@@ -9,6 +9,6 @@ use Rattle.dccp_uses.proofs.timed_end.TimedEnd.hand.Goals as goal
 pub returns-clause-step : goal.returns-clause-step
 returns-clause-step g c =
     let control = g.C.Congestion.control in
-    called_as (record { end = c.self.inside.end; upkeep = c.self.inside.upkeep }) c.args.self.now
-    (λ (s : TimedState _). with_control control s.end.congestion (sends_soon s.end.state c.args.payload.now (may_send control s.end.congestion))) (kept_sent control c.args.now)
-    c.send_soon.new.self c.send_soon.new.out c.in_ok-send_soon.field-0 c.send.new.self c.self.view_is c.in_ok-send_soon.ensures.step c.send.ensures
+    called_as _ _ c.self.view_is
+    (λ (s : TimedState _). with_control control s.end.congestion (sends_soon s.end.state c.args.payload.now (may_send control s.end.congestion)))
+    (kept_sent control c.args.now) _ _ _ _ c.in_ok-send_soon.ensures.step c.send.ensures

@@ -1,9 +1,9 @@
-use Rattle.std.proofs.Common.{◌≡◌, subst, ap, ◌∙◌, Bool, not, is_some}
+use Rattle.std.proofs.Common.{ap, ◌∙◌, Bool, not, is_some}
 use Rattle.dccp_endpoint.specs.Controlled.{EndStep, with_control}
 use Rattle.dccp_endpoint.specs.Receiving.{receives}
 use Rattle.dccp_states.specs.declared.outcome.Outcome.{Outcome}
 use Rattle.dccp_uses.specs.Path.{sight_of}
-use Rattle.dccp_uses.specs.Timed.{TimedState, timed_hears}
+use Rattle.dccp_uses.specs.Timed.{TimedState}
 use Rattle.dccp_uses.specs.Upkeeps.{heard_so, kept_heard}
 use Rattle.dccp_uses.specs.declared.sight.Sight.{Sight}
 use Rattle.dccp_uses.specs.declared.upkeep.HeardDatagram.{HeardDatagram}
@@ -18,13 +18,11 @@ returns-clause-step g c =
     let end = c.reach-outcome.new.end in
     let frame = c.reach-outcome.new.out in
     let outcome = c.reach-outcome.result in
-    subst
-    (λ (x : TimedState _). record { timed = record { end = end; upkeep = c.hear.new.self }; frame = frame; answer = outcome } ≡ timed_hears control now x c.args.datagram.now)
-    c.self.view_is
-    (stepped_as end frame outcome (with_control control s.end.congestion (receives s.end.state c.args.datagram.now)) c.hear.new.self
-    (λ (x : EndStep _ Outcome). kept_heard control now s.upkeep (heard_so (sight_of control s.end) x.answer (not (is_some x.frame))) x.after)
-    c.reach-outcome.ensures.step
+    stepped_as s _ c.self.view_is (λ (x : TimedState _). with_control control x.end.congestion (receives x.end.state c.args.datagram.now))
+    (λ (x : TimedState _) (made : EndStep _ Outcome).
+    kept_heard control now x.upkeep (heard_so (sight_of control x.end) made.answer (not (is_some made.frame))) made.after)
+    _ _ _ _ c.reach-outcome.ensures.step
     (c.hear.ensures
     ∙ ap (λ (h : HeardDatagram). kept_heard control now s.upkeep h end)
     (c.new-heard.ensures ∙ ap (λ (b : Bool). heard_so c.of-was.result outcome b) c.is_silent.ensures
-    ∙ ap (λ (x : Sight). heard_so x outcome (not (is_some frame))) c.of-was.ensures)))
+    ∙ ap (λ (x : Sight). heard_so x outcome (not (is_some frame))) c.of-was.ensures))

@@ -8,6 +8,5 @@ use Rattle.dccp_uses.proofs.timed_end.TimedEnd.prefer.Goals as goal
 pub returns-clause-step : goal.returns-clause-step
 returns-clause-step g c =
     let control = g.C.Congestion.control in
-    called_as (record { end = c.self.inside.end; upkeep = c.self.inside.upkeep }) c.args.self.now
-    (λ (s : TimedState _). with_control control s.end.congestion (prefers s.end.state (c.args.feature, c.args.place) c.args.values.now)) (kept_preferred control c.args.now)
-    c.prefer.new.self c.prefer.new.out c.in_ok-prefer.field-0 c.prefer-2.new.self c.self.view_is c.in_ok-prefer.ensures.step c.prefer-2.ensures
+    called_as _ _ c.self.view_is (λ (s : TimedState _). with_control control s.end.congestion (prefers s.end.state (c.args.feature, c.args.place) c.args.values.now)) (kept_preferred control c.args.now) _ _ _ _
+    c.in_ok-prefer.ensures.step c.prefer-2.ensures
