@@ -5,7 +5,7 @@
 use Rattle.std.proofs.Common.{◌≡◌, ◌⊎◌, inl, inr, refl, ap, sym, ◌∙◌, subst, ℕ, Bool, true, false, not, ◌&&◌, List, [], ◌++◌, Option, Some, None}
 use Rattle.std.specs.List.{All}
 use Rattle.std.specs.Prelude.{filter}
-use Rattle.std.proofs.lemmas.Bool.{false≢true}
+use Rattle.std.proofs.lemmas.Bool.{false≢true, not-true}
 use Rattle.std.proofs.lemmas.List.{append-nil}
 use Rattle.std.proofs.lemmas.List.Elements.{All-nil, filter_passes}
 use Rattle.congestion_trait.specs.Calls.{Call}
@@ -131,13 +131,9 @@ offered_keys e heard confirms = asking (turned e.rows (heard ++ offerings (is_co
 abbrev pub offered_turns : EndState → List Turn → List DueConfirm → List Turn
 offered_turns e heard confirms = heard ++ (offerings (is_confirmed confirms) every_place ++ sendings (next_number e) (offered_keys e heard confirms))
 
-not-so : (b : Bool) → not b ≡ true → b ≡ false
-not-so true is = cc is
-not-so false is = refl
-
 -- the rows that ask have no Confirm
 pub asking-apart : (confirms : List DueConfirm) (keys : List Key) → All (λ k. is_confirmed confirms k ≡ false) (filter (λ k. not (is_confirmed confirms k)) keys)
-asking-apart confirms keys = λ i d inside. not-so _ (filter_passes (λ k. not (is_confirmed confirms k)) keys i d inside)
+asking-apart confirms keys = λ i d inside. not-true _ (filter_passes (λ k. not (is_confirmed confirms k)) keys i d inside)
 
 abbrev pub offering : {e : EndState} {given : Input} {h : HeardNumber} {heard : List Turn} {confirms : List DueConfirm} → AreHeard e given h heard confirms
     → AreTurns e given h (offered_turns e heard confirms)

@@ -29,10 +29,7 @@ module _ {C : Type 0} (control : Control C) (old : C) (e : EndState) (bytes : Li
             ∙ ap (λ (cs : List Call). record { state = e; congestion = after_calls control old cs }) calls,
         has.frame_is ∙ ap (λ (f : Effect). frame_by e f f.sending) has.form,
       )
-  dropped-step step (Synced number) same has = tt
-  dropped-step step (WasReset code) same has = tt
-  dropped-step step (SentReset code detail) same has = tt
-  dropped-step step (Took delivered) same has = tt
+  dropped-step step _ same has = tt
 
   dropped-rests : (made : EndStep C Outcome) → made ≡ with_control control old (receives e bytes)
       → OnDropped made.answer ((made.after ≡ record { state = e; congestion = old }) × (made.frame ≡ None))

@@ -23,13 +23,13 @@ use Rattle.dccp_states.specs.declared.outcome.Why.TheVariants as why
 use Rattle.dccp_endpoint.proofs.Phases.{accept-so}
 
 -- A packet that is no Reset goes past what is made of Resets.
-record IsNoReset (a : Incoming) (e : EndState) (t : PacketType) : Type 0 where
-  passes : (x : EndState) → ends_by_reset a t x ≡ Goes x
-  rises : raises a e t ≡ Goes (with_raised_marks e a)
-  responds : answers a e t true ≡ Goes (started e e.phase a)
-  fails : answers a e t false ≡ Leaves e exits.PacketError
+pub record IsNoReset (a : Incoming) (e : EndState) (t : PacketType) : Type 0 where
+  pub passes : (x : EndState) → ends_by_reset a t x ≡ Goes x
+  pub rises : raises a e t ≡ Goes (with_raised_marks e a)
+  pub responds : answers a e t true ≡ Goes (started e e.phase a)
+  pub fails : answers a e t false ≡ Leaves e exits.PacketError
 
-no-reset : (a : Incoming) (e : EndState) (t : PacketType) → t ≢ types.Reset → IsNoReset a e t
+pub no-reset : (a : Incoming) (e : EndState) (t : PacketType) → t ≢ types.Reset → IsNoReset a e t
 no-reset a e types.Reset other = absurd (other refl)
 no-reset a e _ other = record { passes = λ x. refl; rises = refl; responds = refl; fails = refl }
 
@@ -46,12 +46,12 @@ abbrev answer_of : Step Outcome → Outcome
 answer_of step = step.answer
 
 -- the steps that are left
-abbrev from : Incoming → Course → List (EndState → Course) → Step Outcome
+abbrev pub from : Incoming → Course → List (EndState → Course) → Step Outcome
 from a course steps = ends_as a (through course steps)
 
 module _ (e : EndState) (bytes : List ℕ) where
   -- step 1
-  came-goes : (a : Incoming) → Came e (Arrives bytes) a → receives e bytes ≡ takes e a
+  pub came-goes : (a : Incoming) → Came e (Arrives bytes) a → receives e bytes ≡ takes e a
   unfolding receives
   came-goes a came =
       let given : Input.Arrives bytes ≡ Arrives came.bytes = came.is_given in

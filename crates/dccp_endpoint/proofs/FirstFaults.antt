@@ -67,21 +67,12 @@ module _ (count : Bool) (ack : Option ℕ) (h : ReadingState) where
     change-way change first few rows (Confirms body) is =
         Meets entry number list rows (h.confirms ++ record { left = not (is_left entry.kind); number = number; body = body } ∷ []) true change spoken
     change-way change first few rows (Fatal code) is = ChangeWrong entry number list code spoken change first few is
-    change-way change first few rows Ignored is = Meets entry number list rows h.confirms true change spoken
-    change-way change first few rows Settled is = Meets entry number list rows h.confirms true change spoken
-    change-way change first few rows Opens is = Meets entry number list rows h.confirms true change spoken
-    change-way change first few rows Waits is = Meets entry number list rows h.confirms true change spoken
-    change-way change first few rows Quiet is = Meets entry number list rows h.confirms true change spoken
+    change-way change first few rows _ is = Meets entry number list rows h.confirms true change spoken
 
     confirm-way : is_change entry.kind ≡ false → was_met h entry number ≡ false → (rows : List Row) (x : RowAnswer)
         → (confirmed h.rows (is_left entry.kind) number list ack).answer ≡ x → Goes (by_settling h place rows entry (settling_of x))
     confirm-way other first rows (Fatal code) is = ConfirmWrong entry number list code spoken other first is
-    confirm-way other first rows (Confirms body) is = Meets entry number list rows h.confirms false other spoken
-    confirm-way other first rows Ignored is = Meets entry number list rows h.confirms false other spoken
-    confirm-way other first rows Settled is = Meets entry number list rows h.confirms false other spoken
-    confirm-way other first rows Opens is = Meets entry number list rows h.confirms false other spoken
-    confirm-way other first rows Waits is = Meets entry number list rows h.confirms false other spoken
-    confirm-way other first rows Quiet is = Meets entry number list rows h.confirms false other spoken
+    confirm-way other first rows _ is = Meets entry number list rows h.confirms false other spoken
 
     first-way : (change : Bool) → is_change entry.kind ≡ change → was_met h entry number ≡ false
         → Goes (heeds_first ack h entry change (is_left entry.kind) number list)

@@ -32,12 +32,9 @@ module _ (e : EndState) where
   waited false = none
 
   now : (timer : Timer) (in_flight : Bool) (ph : Phase) → IsFired (has_cause timer e in_flight) (fires_now e timer in_flight ph)
-  now timers.Request in_flight ph = done _ refl
-  now timers.Ack in_flight ph = done _ refl
   now timers.Negotiate in_flight ph = asked (due_keys e.rows)
   now timers.Rto in_flight ph = waited in_flight
-  now timers.Close in_flight ph = done _ refl
-  now timers.TimeWait in_flight ph = done _ refl
+  now _ in_flight ph = done _ refl
 
   by-phase : (timer : Timer) (in_flight : Bool) (ph : Phase) (fits : Bool)
       → IsFired (fits && has_cause timer e in_flight) (if fits then fires_now e timer in_flight ph else idle e false)

@@ -46,27 +46,12 @@ ack-full short (kind.Ack (Short ack)) gss long within near = cc long
 ack-full short (kind.DataAck (Short ack)) gss long within near = cc long
 ack-full true (kind.Ack (Long ack)) gss long within near = ap Some (finds-cut ack gss (within refl) (near refl))
 ack-full true (kind.DataAck (Long ack)) gss long within near = ap Some (finds-cut ack gss (within refl) (near refl))
-ack-full true (kind.Request service) gss long within near = refl
-ack-full true (kind.Response ack service) gss long within near = refl
-ack-full true kind.Data gss long within near = refl
-ack-full true (kind.CloseReq ack) gss long within near = refl
-ack-full true (kind.Close ack) gss long within near = refl
-ack-full true (kind.Reset ack code detail) gss long within near = refl
-ack-full true (kind.Sync ack) gss long within near = refl
-ack-full true (kind.SyncAck ack) gss long within near = refl
 ack-full false (kind.Ack (Long ack)) gss long within near = refl
-ack-full false (kind.DataAck (Long ack)) gss long within near = refl
-ack-full false (kind.Request service) gss long within near = refl
-ack-full false (kind.Response ack service) gss long within near = refl
-ack-full false kind.Data gss long within near = refl
-ack-full false (kind.CloseReq ack) gss long within near = refl
-ack-full false (kind.Close ack) gss long within near = refl
-ack-full false (kind.Reset ack code detail) gss long within near = refl
-ack-full false (kind.Sync ack) gss long within near = refl
-ack-full false (kind.SyncAck ack) gss long within near = refl
+ack-full true _ gss long within near = refl
+ack-full false _ gss long within near = refl
 
 -- the packet that the frame of a draft is read as
-abbrev parts_in : Config → Bool → ℕ → Draft → ℕ → Parts
+abbrev pub parts_in : Config → Bool → ℕ → Draft → ℕ → Parts
 parts_in config short number draft sum =
     record {
       header = record (in_widths (own_header config short number draft.kind)) { checksum = sum };

@@ -91,25 +91,6 @@ has-due rows k sound =
     agree-so (has_key k (due_keys rows)) (is_due (row_at rows k.0 k.1))
     (λ has. asks.0 (has-contains k (due_keys rows) has)) (λ due. contains-has k (due_keys rows) (asks.1 due))
 
--- no key is due twice
-pub due-distinct : (rows : List Row) → IsNegotiation rows → AreDistinct (due_keys rows)
-due-distinct = due_distinct
-
-filter-few : {X : Type 0} (test : X → Bool) (list : List X) → length (filter test list) ≤ length list
-filter-few test [] = omega arith
-filter-few test (first ∷ rest) = by (test first) (filter-few test rest) where
-  by : (kept : Bool) → length (filter test rest) ≤ length rest → length (cond kept (first ∷ filter test rest) (filter test rest)) ≤ suc (length rest)
-  by true later = omega (arith, later)
-  by false later = omega (arith, later)
-
--- no more rows are due than there are
-pub due-few : (rows : List Row) → IsNegotiation rows → length (due_keys rows) ≤ 18
-due-few rows sound =
-    let few = filter-few is_due rows in
-    let size = sound.size in
-    let same : length (due_keys rows) ≡ length (filter is_due rows) = length-map {B = Key} (filter is_due rows) (λ (row : Row). (row.feature, row.place)) in
-    omega (arith, few, size, same)
-
 -- a filter keeps a key exactly if it passes
 pub has-filter : (test : Key → Bool) (k : Key) (keys : List Key) → has_key k (filter test keys) ≡ (has_key k keys && test k)
 has-filter test k [] = refl
@@ -134,10 +115,6 @@ has-unconfirmed confirms k keys = has-filter (λ (k : Key). not (is_confirmed co
 pub unconfirmed-distinct : (confirms : List DueConfirm) (keys : List Key) → AreDistinct keys → AreDistinct (unconfirmed confirms keys)
 unconfirmed-distinct confirms keys distinct =
     AllPairs-filter (λ one other. one ≢ other) (λ (k : Key). not (is_confirmed confirms k)) keys distinct
-
--- no more keys are without a Confirm than there are
-pub unconfirmed-few : (confirms : List DueConfirm) (keys : List Key) → length (unconfirmed confirms keys) ≤ length keys
-unconfirmed-few confirms keys = filter-few (λ (k : Key). not (is_confirmed confirms k)) keys
 
 -- the rows that ask on a Request or a Response
 pub has-asking : (rows : List Row) (confirms : List DueConfirm) (k : Key) → IsNegotiation rows
@@ -241,19 +218,5 @@ events-offerings is_confirmed k = by k.0 k.1 where
   by : (feature : Feature) (place : Place) → events_of feature place (offerings is_confirmed every_place) ≡ Offers (is_confirmed (feature, place)) ∷ []
   by f.Ccid Here = refl
   by f.Ccid There = refl
-  by f.ShortSeqnos Here = refl
-  by f.ShortSeqnos There = refl
-  by f.SequenceWindow Here = refl
-  by f.SequenceWindow There = refl
-  by f.EcnIncapable Here = refl
-  by f.EcnIncapable There = refl
-  by f.AckRatio Here = refl
-  by f.AckRatio There = refl
-  by f.SendAckVector Here = refl
-  by f.SendAckVector There = refl
-  by f.SendNdpCount Here = refl
-  by f.SendNdpCount There = refl
-  by f.MinCsCov Here = refl
-  by f.MinCsCov There = refl
-  by f.CheckDataChecksum Here = refl
-  by f.CheckDataChecksum There = refl
+  by _ Here = refl
+  by _ There = refl

@@ -44,13 +44,7 @@ by-type : (w : Marks) (kind : PacketType) (n : ℕ) (ack : Option ℕ) → may_b
 by-type w types.Data n ack may lies = lies
 by-type w types.Ack n ack may lies = lies
 by-type w types.DataAck n ack may lies = lies
-by-type w types.Request n ack may lies = cc may
-by-type w types.Response n ack may lies = cc may
-by-type w types.CloseReq n ack may lies = cc may
-by-type w types.Close n ack may lies = cc may
-by-type w types.Reset n ack may lies = cc may
-by-type w types.Sync n ack may lies = cc may
-by-type w types.SyncAck n ack may lies = cc may
+by-type w _ n ack may lies = cc may
 
 -- the law of validity_windows
 abbrev ValidByTheTable : Type 0

@@ -1,7 +1,7 @@
 -- Of a packet's options a row hears the first that speaks to it, and the Confirm that is due is the row's answer (RFC 4340, section 6).
 use Rattle.std.proofs.Common.{◌≡◌, ◌≢◌, ◌==◌, ◌&&◌, ◌<◌, ◌≤◌, not, refl, sym, ap, ◌∙◌, subst, arith, ℕ, ◌+◌, suc, Bool, true, false, List, [], ◌∷◌, ◌++◌, drop, length, Option, Some, None, Result, Ok, Err, length-set, get_or-set_same, get_or-set_other, eqb-true}
 use Rattle.std.specs.Prelude.{if◌then◌else◌, filter, nat_le, nat_lt, slice_index_or}
-use Rattle.std.proofs.lemmas.Bool.{eq-eqb, and_from, and_left, and_parts, and_right, cond-false, cond-true, eqb-false, false_from_ne_true, false≢true, le-leb, leb-true, lt-ltb}
+use Rattle.std.proofs.lemmas.Bool.{eq-eqb, and_from, and_left, and_parts, and_right, cond-false, cond-true, eqb-false, false_from_ne_true, false≢true, le-leb, leb-true, lt-ltb, not-false}
 use Rattle.std.proofs.lemmas.List.{get_or-replicate, length-replicate}
 use Rattle.dccp_options.specs.Grammar.{Entry}
 use Rattle.dccp_options.specs.Kinds.{change_l, confirm_r, is_understood}
@@ -109,10 +109,6 @@ not_many : (h : ReadingState) (change : Bool) → (change ≡ true → h.changes
 not_many h true few = let less : nat_lt h.changes 64 ≡ true = lt-ltb h.changes 64 (few refl) in rw less refl
 not_many h false few = refl
 
-less-so : (b : Bool) → not b ≡ false → b ≡ true
-less-so true is = refl
-less-so false is = cc is
-
 -- an option for another row
 module _ (k : Key) (ack : Option ℕ) (h next : ReadingState) (entry : Entry) (left : Bool) (number : ℕ) (body : List ℕ) (beside : IsBeside k left number) where
   abbrev place : ℕ
@@ -151,27 +147,18 @@ module _ (k : Key) (ack : Option ℕ) (h next : ReadingState) (entry : Entry) (l
       subst (λ end. Passes k h end (its_turns true)) same
       (met-passes true rows (h.confirms ++ due ∷ []) (its_turns true) row size (confirm-beside k due h.confirms beside.due)
       (omega (arith, more, none)) (events-beside k left number (event_of ack entry true body) beside))
-  answer-passes rows row size Ignored is = silent-passes true rows row size is
-  answer-passes rows row size Settled is = silent-passes true rows row size is
   answer-passes rows row size (Fatal code) is = cc is
-  answer-passes rows row size Opens is = silent-passes true rows row size is
-  answer-passes rows row size Waits is = silent-passes true rows row size is
-  answer-passes rows row size Quiet is = silent-passes true rows row size is
+  answer-passes rows row size _ is = silent-passes true rows row size is
 
   settling-passes : (rows : List Row) → row_at rows k.0 k.1 ≡ row_at h.rows k.0 k.1 → length rows ≡ length h.rows → (answer : RowAnswer)
       → by_settling h place rows entry (settling_of answer) ≡ Ok next → Passes k h next (its_turns false)
-  settling-passes rows row size (Confirms its) is = silent-passes false rows row size is
-  settling-passes rows row size Ignored is = silent-passes false rows row size is
-  settling-passes rows row size Settled is = silent-passes false rows row size is
   settling-passes rows row size (Fatal code) is = cc is
-  settling-passes rows row size Opens is = silent-passes false rows row size is
-  settling-passes rows row size Waits is = silent-passes false rows row size is
-  settling-passes rows row size Quiet is = silent-passes false rows row size is
+  settling-passes rows row size _ is = silent-passes false rows row size is
 
   first-passes : (change : Bool) → is_too_many h change ≡ false → heeds_first ack h entry change left number body ≡ Ok next → Passes k h next (its_turns change)
   first-passes true few is =
       let leaves = changes-leaves k h.rows left number body entry.mandatory beside in
-      let less : nat_lt h.changes 64 ≡ true = less-so (nat_lt h.changes 64) few in
+      let less : nat_lt h.changes 64 ≡ true = not-false (nat_lt h.changes 64) few in
       answer-passes (changes h.rows left number body entry.mandatory).rows leaves.row leaves.size
       (changes h.rows left number body entry.mandatory).answer
       (sym (cond-true (nat_lt h.changes 64) _ _ less) ∙ is)
@@ -189,18 +176,7 @@ module _ (k : Key) (ack : Option ℕ) (h next : ReadingState) (entry : Entry) (l
 
 -- No row answers a Confirm by one.
 settles-silent : (row : Row) (its : Stand) (judged : Confirmation) → confirm_of (row_line row its (Confirmed judged)).answer ≡ None
-settles-silent row stand.Stable judged = refl
-settles-silent row stand.Unstable judged = refl
-settles-silent row stand.Changing c.Late = refl
-settles-silent row stand.Changing c.Empty = by (described row.feature).is_required where
-  by : (required : Bool) → confirm_of (if required then says row (Fatal 5) else settled row row.value).answer ≡ None
-  by true = refl
-  by false = refl
-settles-silent row stand.Changing (c.Shared value) = refl
-settles-silent row stand.Changing c.Held = refl
-settles-silent row stand.Changing (c.Alone value) = refl
-settles-silent row stand.Changing (c.Told value) = refl
-settles-silent row stand.Changing c.Wrong = refl
+settles-silent row its judged = grind arith
 
 -- an option for this row, the first
 changes-own : (k : Key) (rows : List Row) (body : List ℕ) (mandatory : Bool)
@@ -256,28 +232,19 @@ module _ (k : Key) (ack : Option ℕ) (h next : ReadingState) (entry : Entry) (b
         times = omega (arith, more, one);
         lives = λ code fatal. cc (so, fatal);
       })
-  answer-tells rows same_size Ignored so is = silent-tells true rows same_size (ap confirm_of so) (λ code fatal. cc (so, fatal)) is
-  answer-tells rows same_size Settled so is = silent-tells true rows same_size (ap confirm_of so) (λ code fatal. cc (so, fatal)) is
   answer-tells rows same_size (Fatal code) so is = cc is
-  answer-tells rows same_size Opens so is = silent-tells true rows same_size (ap confirm_of so) (λ code fatal. cc (so, fatal)) is
-  answer-tells rows same_size Waits so is = silent-tells true rows same_size (ap confirm_of so) (λ code fatal. cc (so, fatal)) is
-  answer-tells rows same_size Quiet so is = silent-tells true rows same_size (ap confirm_of so) (λ code fatal. cc (so, fatal)) is
+  answer-tells rows same_size _ so is = silent-tells true rows same_size (ap confirm_of so) (λ code fatal. cc (so, fatal)) is
 
   settling-tells : (rows : List Row) → length rows ≡ length h.rows → confirm_of (answer false) ≡ None → (its : RowAnswer) → answer false ≡ its
       → by_settling h (spot k) rows entry (settling_of its) ≡ Ok next → Tells k h next (event false) (own_turns false)
-  settling-tells rows same_size none (Confirms its) so is = silent-tells false rows same_size none (λ code fatal. cc (so, fatal)) is
-  settling-tells rows same_size none Ignored so is = silent-tells false rows same_size none (λ code fatal. cc (so, fatal)) is
-  settling-tells rows same_size none Settled so is = silent-tells false rows same_size none (λ code fatal. cc (so, fatal)) is
   settling-tells rows same_size none (Fatal code) so is = cc is
-  settling-tells rows same_size none Opens so is = silent-tells false rows same_size none (λ code fatal. cc (so, fatal)) is
-  settling-tells rows same_size none Waits so is = silent-tells false rows same_size none (λ code fatal. cc (so, fatal)) is
-  settling-tells rows same_size none Quiet so is = silent-tells false rows same_size none (λ code fatal. cc (so, fatal)) is
+  settling-tells rows same_size none _ so is = silent-tells false rows same_size none (λ code fatal. cc (so, fatal)) is
 
   first-tells : (change : Bool) → is_too_many h change ≡ false → heeds_first ack h entry change (letter_to k.1) (feature_number k.0) body ≡ Ok next
       → Tells k h next (event change) (own_turns change)
   first-tells true few is =
       let own = changes-own k h.rows body entry.mandatory in
-      let less : nat_lt h.changes 64 ≡ true = less-so (nat_lt h.changes 64) few in
+      let less : nat_lt h.changes 64 ≡ true = not-false (nat_lt h.changes 64) few in
       let given = sym (cond-true (nat_lt h.changes 64) _ _ less) ∙ is in
       answer-tells (stepped h.rows k.0 k.1 (Change body entry.mandatory)).rows
       (length-set h.rows (index_of k.0 k.1) (row_step (row_at h.rows k.0 k.1) (Change body entry.mandatory)).row) (answer true) refl

@@ -84,14 +84,7 @@ spot k = place_in_used (letter_to k.1) (feature_number k.0)
 
 number-below : (feature : Feature) → feature_number feature < 10
 number-below f.Ccid = omega arith
-number-below f.ShortSeqnos = omega arith
-number-below f.SequenceWindow = omega arith
-number-below f.EcnIncapable = omega arith
-number-below f.AckRatio = omega arith
-number-below f.SendAckVector = omega arith
-number-below f.SendNdpCount = omega arith
-number-below f.MinCsCov = omega arith
-number-below f.CheckDataChecksum = omega arith
+number-below _ = omega arith
 
 -- a row's spot is below 512
 pub spot-below : (k : Key) → spot k < 512
@@ -108,23 +101,7 @@ spot-so false true m n is = absurd (omega arith)
 
 -- a feature that is found by a number has it
 pub found : (number : ℕ) (feature : Feature) → feature_numbered number ≡ Some feature → feature_number feature ≡ number
-found number feature is =
-    by 1 f.Ccid refl (number == 1) refl
-    (by 2 f.ShortSeqnos refl (number == 2) refl
-    (by 3 f.SequenceWindow refl (number == 3) refl
-    (by 4 f.EcnIncapable refl (number == 4) refl
-    (by 5 f.AckRatio refl (number == 5) refl
-    (by 6 f.SendAckVector refl (number == 6) refl
-    (by 7 f.SendNdpCount refl (number == 7) refl
-    (by 8 f.MinCsCov refl (number == 8) refl
-    (by 9 f.CheckDataChecksum refl (number == 9) refl (λ none. cc none))))))))) is
-  where
-    by : {rest : Option Feature} (n : ℕ) (one : Feature) → feature_number one ≡ n → (test : Bool) → (number == n) ≡ test
-        → (rest ≡ Some feature → feature_number feature ≡ number) → (if test then Some one else rest) ≡ Some feature → feature_number feature ≡ number
-    by n one its true test later same =
-        let features : one ≡ feature = cc same in
-        ap feature_number (sym features) ∙ its ∙ sym (eqb-true number n test)
-    by n one its false test later same = later same
+found number feature is = grind arith
 
 -- An option that does not speak to the row has another place among those that were met, no Confirm for it is for the row, and no turn
 -- by it is the row's.

@@ -95,8 +95,6 @@ line-short : (row : Row) (s : Stand) (proposed : Proposal) (mandatory : Bool) �
 line-short row s p.Invalid false is = omega arith
 line-short row s p.Invalid true is = tt
 line-short row stand.Unstable p.Unshared mandatory is = tt
-line-short row stand.Unstable (p.Shared value) mandatory is = tt
-line-short row stand.Unstable (p.Told value) mandatory is = tt
 line-short row stand.Stable (p.Shared value) mandatory is = body-short (holding row value) is
 line-short row stand.Changing (p.Shared value) mandatory is = body-short (holding row value) is
 line-short row stand.Stable (p.Told value) mandatory is = body-short (holding row value) is
@@ -105,6 +103,7 @@ line-short row stand.Stable p.Unshared false is = body-short row is
 line-short row stand.Changing p.Unshared false is = body-short row is
 line-short row stand.Stable p.Unshared true is = tt
 line-short row stand.Changing p.Unshared true is = tt
+line-short row stand.Unstable _ mandatory is = tt
 
 -- a feature that is known has a row
 abbrev rows_of : Option Feature → ℕ
@@ -188,22 +187,8 @@ one-used used place (k ∷ keys) inside free its = by (spot k == place) refl (λ
 has-row : (feature : Feature) (place : Place) → has_spot (spot (feature, place)) every_place ≡ true
 has-row f.Ccid Here = refl
 has-row f.Ccid There = refl
-has-row f.ShortSeqnos Here = refl
-has-row f.ShortSeqnos There = refl
-has-row f.SequenceWindow Here = refl
-has-row f.SequenceWindow There = refl
-has-row f.EcnIncapable Here = refl
-has-row f.EcnIncapable There = refl
-has-row f.AckRatio Here = refl
-has-row f.AckRatio There = refl
-has-row f.SendAckVector Here = refl
-has-row f.SendAckVector There = refl
-has-row f.SendNdpCount Here = refl
-has-row f.SendNdpCount There = refl
-has-row f.MinCsCov Here = refl
-has-row f.MinCsCov There = refl
-has-row f.CheckDataChecksum Here = refl
-has-row f.CheckDataChecksum There = refl
+has-row _ Here = refl
+has-row _ There = refl
 
 letter-kept : (left : Bool) → letter_to (place_of left) ≡ left
 letter-kept true = refl
@@ -294,11 +279,7 @@ answered-bounded h place rows entry left number (Confirms body) its one used b f
       room = (let long = length-confirms h.confirms due in let old = b.room in omega (arith, long, old, more, used, short));
     }
 answered-bounded h place rows entry left number (Fatal code) its one used b few sound short = refl
-answered-bounded h place rows entry left number Ignored its one used b few sound short = met-bounded h place true rows b sound
-answered-bounded h place rows entry left number Settled its one used b few sound short = met-bounded h place true rows b sound
-answered-bounded h place rows entry left number Opens its one used b few sound short = met-bounded h place true rows b sound
-answered-bounded h place rows entry left number Waits its one used b few sound short = met-bounded h place true rows b sound
-answered-bounded h place rows entry left number Quiet its one used b few sound short = met-bounded h place true rows b sound
+answered-bounded h place rows entry left number _ its one used b few sound short = met-bounded h place true rows b sound
 
 settling-bounded : (h : ReadingState) (place : ℕ) (rows : List Row) (entry : Entry) (x : Settling) → IsBounded h → IsNegotiation rows
     → IsBoundedReading (by_settling h place rows entry x)

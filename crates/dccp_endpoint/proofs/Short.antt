@@ -32,11 +32,11 @@ front_is_silent : (has_vector : Bool) (vectors : Vectors) (set : MarkedSet) (ack
 front_is_silent true vectors set ack items = options_are_silent (option_data (vector_under (has set.numbers) set.floor ack vectors)) items
 front_is_silent false vectors set ack items = refl
 
-confirms_negotiate : (left : Bool) → is_of_negotiation (confirm_type left) ≡ true
+pub confirms_negotiate : (left : Bool) → is_of_negotiation (confirm_type left) ≡ true
 confirms_negotiate true = refl
 confirms_negotiate false = refl
 
-changes_negotiate : (place : Place) → is_of_negotiation (change_type place) ≡ true
+pub changes_negotiate : (place : Place) → is_of_negotiation (change_type place) ≡ true
 changes_negotiate Here = refl
 changes_negotiate There = refl
 

@@ -41,18 +41,12 @@ width-kept (Some ack) = refl
 pub ack-spells : (short : Bool) (number : ℕ) (k : Kind) → has_forms true k ≡ true → (short ≡ true → may_be_short (packet_type k) ≡ true)
     → ack_of (kind_in_widths (in_form short k)) ≡ ack_in_width (is_long (number_in_width (number_in_form short number))) (ack_of (kind_in_widths k))
 ack-spells false number k long may = width-kept (ack_of (kind_in_widths k))
-ack-spells true number (kind.Request service) long may = cc (may refl)
-ack-spells true number (kind.Response ack service) long may = cc (may refl)
 ack-spells true number kind.Data long may = refl
 ack-spells true number (kind.Ack (Long ack)) long may = ap Some (cut-again ack)
 ack-spells true number (kind.Ack (Short ack)) long may = cc long
 ack-spells true number (kind.DataAck (Long ack)) long may = ap Some (cut-again ack)
 ack-spells true number (kind.DataAck (Short ack)) long may = cc long
-ack-spells true number (kind.CloseReq ack) long may = cc (may refl)
-ack-spells true number (kind.Close ack) long may = cc (may refl)
-ack-spells true number (kind.Reset ack code detail) long may = cc (may refl)
-ack-spells true number (kind.Sync ack) long may = cc (may refl)
-ack-spells true number (kind.SyncAck ack) long may = cc (may refl)
+ack-spells true number _ long may = cc (may refl)
 
 -- the frame of a draft spells its numbers
 abbrev pub draft-spelled : (config : Config) (short : Bool) (number : ℕ) (draft : Draft) (sent : Outgoing) → IsSendable draft

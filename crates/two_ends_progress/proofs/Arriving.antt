@@ -1,5 +1,6 @@
 -- The frame of a packet that is a type alone comes at the end for which it is meant, as it was meant.
 use Rattle.std.proofs.Common.{map, Ok, ◌≡◌, refl, ap, ◌∙◌, ◌==◌, ◌&&◌, ℕ, ◌^◌, ◌<◌, List, true, false, Option, arith}
+use Rattle.std.proofs.lemmas.Bool.{eq-eqb}
 use Rattle.std.proofs.Math.Bool.{and-false}
 use Rattle.std.specs.Result.{result_ok}
 use Rattle.dccp_packets.specs.Forms.{ack_near, may_be_short}
@@ -55,11 +56,8 @@ pub record IsRead (e : EndState) (bytes : List ℕ) (number : ℕ) (d : Draft) :
 abbrev pub IsHere : EndState → List ℕ → ℕ → Kind → Type 0
 IsHere e bytes number k = IsRead e bytes number (alone k)
 
-pub same-test : (a b : ℕ) → a ≡ b → (a == b) ≡ true
-same-test a b same = grind (arith, same)
-
 pub both-same : (a b c d : ℕ) → a ≡ b → c ≡ d → ((a == b) && (c == d)) ≡ true
-both-same a b c d left right = rw (same-test a b left, same-test c d right) refl
+both-same a b c d left right = rw (eq-eqb a b left, eq-eqb c d right) refl
 
 pub draft-read : (from : Config) (e : EndState) (number : ℕ) (d : Draft) → IsSentTo from e.config → Fits from → number < 2 ^ 48 → IsPlain d
     → IsRead e (frame_of from false number d) number d

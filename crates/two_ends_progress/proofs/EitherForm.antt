@@ -1,5 +1,6 @@
 -- The frame of a draft comes in either form of its numbers, if the end takes short ones and can read them in full.
 use Rattle.std.proofs.Common.{map, Ok, ◌≡◌, refl, ap, sym, ◌∙◌, ◌&&◌, ◌||◌, not, ℕ, ◌-◌, ◌%◌, ◌^◌, ◌<◌, Bool, true, false, List, length, Option, arith}
+use Rattle.std.proofs.lemmas.Bool.{or_parts}
 use Rattle.std.specs.Result.{result_ok}
 use Rattle.dccp_packets.specs.Forms.{may_be_short, number_in_form}
 use Rattle.dccp_packets.specs.Grammar.{KindFits, Parts, decoded, is_long, packet_type, padded}
@@ -44,14 +45,9 @@ reading : (e : EndState) (short : Bool) (number : ℕ) → (short ≡ true → t
 reading e false number takes = (number, refl)
 reading e true number takes = (_, ap (λ (b : Bool). short_number b (number % 2 ^ 24) e.marks.gsr) (takes refl))
 
-neither : (a b : Bool) → (a || b) ≡ false → (a ≡ false) × (b ≡ false)
-neither false false is = (refl, refl)
-neither false true is = cc is
-neither true b is = cc is
-
 -- a short frame that is not far, at an end that takes it
 near-parts : (takes short a b : Bool) → takes ≡ true → short ≡ true → (takes && (short && (a || b))) ≡ false → (a ≡ false) × (b ≡ false)
-near-parts true true a b takes short is = neither a b is
+near-parts true true a b takes short is = or_parts a b is
 near-parts false short a b takes is none = cc takes
 near-parts true false a b takes short none = cc short
 

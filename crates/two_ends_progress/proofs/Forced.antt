@@ -1,5 +1,6 @@
 -- The results of the steps, if it is known what came: the equations below the causes of an outcome.
 use Rattle.std.proofs.Common.{◌≡◌, ◌≢◌, refl, ℕ, List, [], ◌∷◌, true, false}
+use Rattle.dccp_endpoint.proofs.Exactly.{came-goes, from, no-reset}
 use Rattle.dccp_packets.specs.declared.header.PacketType.{PacketType}
 use Rattle.dccp_packets.specs.declared.header.PacketType.TheVariants as types
 use Rattle.dccp_states.specs.declared.entrance.Entrance.TheVariants as entrance
@@ -19,50 +20,28 @@ use Rattle.dccp_states.specs.declared.outcome.Outcome.{Outcome}
 use Rattle.dccp_states.specs.declared.outcome.Outcome.TheVariants.{Synced, WasReset}
 use Rattle.validity_windows.specs.declared.verdict.Verdict.TheVariants as verdicts
 
--- A packet that is no Reset goes past what is made of Resets.
-record IsNoReset (a : Incoming) (e : EndState) (t : PacketType) : Type 0 where
-  passes : (x : EndState) → ends_by_reset a t x ≡ Goes x
-  rises : raises a e t ≡ Goes (with_raised_marks e a)
-  responds : answers a e t true ≡ Goes (started e e.phase a)
-
-no-reset : (a : Incoming) (e : EndState) (t : PacketType) → t ≢ types.Reset → IsNoReset a e t
-no-reset a e types.Reset other = absurd (other refl)
-no-reset a e _ other = record { passes = λ x. refl; rises = refl; responds = refl }
-
--- the steps that are left
-abbrev from : Incoming → Course → List (EndState → Course) → Step Outcome
-from a course steps = ends_as a (through course steps)
-
 module _ (e : EndState) (bytes : List ℕ) (a : Incoming) (came : Came e (Arrives bytes) a) where
-  -- step 1
-  came-goes : receives e bytes ≡ takes e a
-  unfolding receives
-  came-goes =
-      let given : Input.Arrives bytes ≡ Arrives came.bytes = came.is_given in
-      let same : bytes ≡ came.bytes = cc given in
-      rw (same, came.is_packet, came.sum_fits, came.is_ours, came.reads, came.same) refl
-
   -- a packet whose numbers are not valid is answered by a Sync
   pub bad-goes : (n : ℕ) → entrance_of e a ≡ entrance.Check → verdict_of e a ≡ verdicts.SyncFor n
       → receives e bytes ≡ sends e (alone (kind.Sync n)) (Synced n)
-  bad-goes n is bad = rw (came-goes, is) (rw (bad, through) refl)
+  bad-goes n is bad = rw (came-goes e bytes a came, is) (rw (bad, through) refl)
 
   -- a valid Reset ends the connection
   pub reset-goes : entrance_of e a ≡ entrance.Check → verdict_of e a ≡ verdicts.Valid → a.kind ≡ types.Reset
       → receives e bytes ≡ idle (in_phase e phases.TimeWait) (WasReset a.code)
-  reset-goes is fits reset = rw (came-goes, is) (rw (fits, reset, reset, through) refl)
+  reset-goes is fits reset = rw (came-goes e bytes a came, is) (rw (fits, reset, reset, through) refl)
 
   -- without a connection a packet gets a Reset
   pub stray-goes : entrance_of e a ≡ entrance.NoConnection
       → receives e bytes ≡ resets_without_connection e a (without_detail (number_of_code codes.NoConnection))
-  stray-goes is = rw (came-goes, is) refl
+  stray-goes is = rw (came-goes e bytes a came, is) refl
 
   -- steps 2 to 6
   valid-goes : entrance_of e a ≡ entrance.Check → a.kind ≢ types.Reset → verdict_of e a ≡ verdicts.Valid
       → receives e bytes ≡ from a (Goes (with_raised_marks e a)) (checks_type a ∷ [])
   valid-goes is no_reset fits =
       let other = no-reset a e a.kind no_reset in
-      rw (came-goes, is) (rw (fits, other.rises, other.passes _, through) refl)
+      rw (came-goes e bytes a came, is) (rw (fits, other.rises, other.passes _, through) refl)
 
   -- step 7
   pub expected-goes : entrance_of e a ≡ entrance.Check → a.kind ≢ types.Reset → verdict_of e a ≡ verdicts.Valid

@@ -273,12 +273,10 @@ refused-by e bytes (Synced told) (Unexpected a entered valid out same) f turns f
     }
 refused-by e bytes (SentReset code detail) cause f turns form number heard = by cause.fault cause.why form where
   by : (fault : Fault) (why : IsReset e bytes fault) → f ≡ effect_of_reset e bytes fault why → IsSyncedFor e bytes number (SentReset code detail)
-  by _ (NoConnection a came is) same = (let none : Unheard ≡ Heard false number Refused = sym (ap (λ (x : Effect). x.hearing) same) ∙ heard in cc none)
-  by _ (OtherService a came is not) same = (let none : Unheard ≡ Heard false number Refused = sym (ap (λ (x : Effect). x.hearing) same) ∙ heard in cc none)
-  by _ (NoAnswer a came not) same = (let none : Unheard ≡ Heard false number Refused = sym (ap (λ (x : Effect). x.hearing) same) ∙ heard in cc none)
   by _ (WrongService a entered valid expected not) same = (let none = sym (ap (λ (x : Effect). x.hearing) same) ∙ heard in cc none)
   by _ (Faulted a entered first admitted is) same = (let none = sym (ap (λ (x : Effect). x.hearing) same) ∙ heard in cc none)
   by _ (AnswersClose a entered h to admitted is row) same = (let none = sym (ap (λ (x : Effect). x.hearing) same) ∙ heard in cc none)
+  by _ _ same = (let none : Unheard ≡ Heard false number Refused = sym (ap (λ (x : Effect). x.hearing) same) ∙ heard in cc none)
 
 -- the half after a step is that of its effect
 -- a call delivers nothing

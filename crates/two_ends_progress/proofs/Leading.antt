@@ -32,12 +32,7 @@ passive-one : (e : Event) → IsPassive e
     → ((side : Side) × ((timer : Timer) × (e ≡ event.Timer side timer))) ⊎ ((from : Side) × ((index : ℕ) × (e ≡ event.Deliver from index)))
 passive-one (event.Timer side timer) is = inl (side, (timer, refl))
 passive-one (event.Deliver from index) is = inr (from, (index, refl))
-passive-one event.Open is = absurd is
-passive-one (event.Send side payload) is = absurd is
-passive-one (event.SendEarly side payload) is = absurd is
-passive-one (event.Prefer side feature place values) is = absurd is
-passive-one (event.Close side) is = absurd is
-passive-one (event.Abort side) is = absurd is
+passive-one _ is = absurd is
 
 pub passive-at : (events : List Event) (place : ℕ) (e : Event) → ArePassive events → slice_get events place ≡ Some e
     → ((side : Side) × ((timer : Timer) × (e ≡ event.Timer side timer))) ⊎ ((from : Side) × ((index : ℕ) × (e ≡ event.Deliver from index)))

@@ -1,6 +1,6 @@
 -- What is valid whatever was lost: a Sync or SyncAck under the last number of its sender, and what comes next.
 use Rattle.std.proofs.Common.{nat_lt, ◌-◌, ◌≡◌, ◌⊎◌, inl, inr, refl, sym, ◌∙◌, subst, ◌&&◌, ℕ, ◌+◌, ◌*◌, ◌/◌, ◌^◌, ◌<◌, ◌≤◌, Bool, true, false, if◌then◌else◌, Option, Some, arith}
-use Rattle.std.proofs.lemmas.Bool.{cases_lt, le-leb, lt-ltb}
+use Rattle.std.proofs.lemmas.Bool.{cases_lt, le-leb, lt-ltb, and_from}
 use Rattle.seq_circle.specs.Circle.{distance, is_before, is_within, later_of, open_end, residue}
 use Rattle.seq_circle.specs.Counts.{count_of}
 use Rattle.validity_windows.proofs.Counts.{ack-count, later_of-before, later_of-same, no_end-count, sequence-count}
@@ -172,11 +172,8 @@ pub next-newest : (m : Marks) (last n : ℕ) → AreHeard m last → n ≡ resid
 next-newest m last n h same =
     let few = h.few in
     let far : distance m.gsr n ≡ h.end + 1 - h.greatest = omega (arith, h.gsr_is, h.last_is, same, h.ends, few) in
-    and-both (nat_lt 0 (distance m.gsr n)) (nat_lt (distance m.gsr n) (2 ^ 47)) (lt-ltb 0 (distance m.gsr n) (omega (arith, far, h.ends)))
+    and_from (nat_lt 0 (distance m.gsr n)) (nat_lt (distance m.gsr n) (2 ^ 47)) (lt-ltb 0 (distance m.gsr n) (omega (arith, far, h.ends)))
     (lt-ltb (distance m.gsr n) (2 ^ 47) (omega (arith, far, few)))
-  where
-    and-both : (x y : Bool) → x ≡ true → y ≡ true → (x && y) ≡ true
-    and-both x y left right = rw (left, right) refl
 
 -- A number of a frame that was sent is not after the next one.
 pub sent-before : (iss count n o : ℕ) → n ≡ residue (iss + count) → count < 2 ^ 47 → o < 2 ^ 48 → iss < 2 ^ 48 → count_of iss o ≤ count

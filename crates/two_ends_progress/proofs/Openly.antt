@@ -37,22 +37,17 @@ use Rattle.world_events.specs.declared.event.WorldFault.TheVariants as fault
 use Rattle.two_ends_progress.specs.GettingThrough.{AreFew}
 use Rattle.two_ends_progress.proofs.EitherForm.{IsReadAs, either-read}
 use Rattle.two_ends_progress.proofs.Leading.{next}
-use Rattle.two_ends_progress.proofs.Stepping.{Acts, AreTwo, ClientFirst, ServerFirst, turned, IsUnderWay, arrives, at-end, fewer-under-way, fits-of, gsr-small, gss-small, meant-of, room-so, under-way-next}
+use Rattle.two_ends_progress.proofs.Stepping.{Acts, AreTwo, ClientFirst, ServerFirst, turned, IsUnderWay, arrives, at-end, fewer-under-way, fits-of, gsr-small, gss-small, meant-of, room-so, under-way-next, longer-so}
 use Rattle.two_ends_progress.proofs.Vectoring.{SaysSo, short-may, short-settled}
 
 -- An event adds at most one frame.
-half-longer : {A : Type 0} (half : Half) (arrived : Option ℕ) (s : Step A) → length (moved half arrived s).frames ≤ length half.frames + 1
-half-longer half arrived s =
-    let one = sent-few (length (moved half arrived s).processed) (floor_of s.after) s.frame in
-    omega (arith, one, length-append half.frames (as_sent (length (moved half arrived s).processed) (floor_of s.after) s.frame))
-
 frames-longer : (w : WorldState) (side : Side) (r : Result WorldStep WorldFault) → Takes w side r → (each : Side)
     → length (half_of (world_after w r) each).frames ≤ length (half_of w each).frames + 1
 frames-longer w side _ (Refused why) each = omega arith
-frames-longer w Client _ (Steps arrived given room from) Client = half-longer w.client arrived (end_stepped w.client.end given)
+frames-longer w Client _ (Steps arrived given room from) Client = longer-so w.client arrived (end_stepped w.client.end given)
 frames-longer w Client _ (Steps arrived given room from) Server = omega arith
 frames-longer w Server _ (Steps arrived given room from) Client = omega arith
-frames-longer w Server _ (Steps arrived given room from) Server = half-longer w.server arrived (end_stepped w.server.end given)
+frames-longer w Server _ (Steps arrived given room from) Server = longer-so w.server arrived (end_stepped w.server.end given)
 
 -- Both ends are OPEN, with these rows, and few frames were sent.
 pub record AreOpenWith (more : ℕ) (w : WorldState) (x y : Side) (own others : List Row) : Type 0 where

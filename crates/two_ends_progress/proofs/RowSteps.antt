@@ -36,8 +36,7 @@ change-stays row body mandatory = by row.stand (proposal row body) mandatory ref
   by stand.Unstable p.Invalid false is = refl
   by stand.Unstable p.Invalid true is = refl
   by stand.Unstable (p.Shared value) m is = refl
-  by stand.Unstable p.Unshared m is = refl
-  by stand.Unstable (p.Told value) m is = refl
+  by stand.Unstable _ m is = refl
 
 -- A row that is not UNSTABLE answers each Change by a Confirm, or ends the connection.
 pub change-answered : (row : Row) (body : List ℕ) (mandatory : Bool) → row.stand ≢ stand.Unstable
@@ -98,11 +97,8 @@ confirm-settles row body ack changing answers =
         ⊎ ((row_line row stand.Changing (Confirmed k)).row.stand ≡ stand.Stable)
     line c.Late late = absurd (late refl)
     line c.Empty late = empty (described row.feature).is_required
-    line (c.Shared value) late = inr refl
-    line c.Held late = inr refl
-    line (c.Alone value) late = inr refl
-    line (c.Told value) late = inr refl
     line c.Wrong late = inl (Ends 5 refl)
+    line _ late = inr refl
 
 -- Once its Change went out under a number, a row that asked is in CHANGING; one that was UNSTABLE or had no number has this.
 pub sent-opened : (row : Row) (number : ℕ) → row.stand ≢ stand.Stable

@@ -18,12 +18,15 @@ use Rattle.feature_machine.specs.declared.stands.Stand.TheVariants as stand
 use Rattle.dccp_endpoint.proofs.Asking.{sent-changing}
 use Rattle.dccp_endpoint.proofs.FirstFaults.{changes-few}
 use Rattle.dccp_endpoint.proofs.Heard.{heeds-turns}
-use Rattle.dccp_endpoint.proofs.Keys.{due-distinct, due-few, events-sendings, has-due}
+use Rattle.dccp_endpoint.proofs.Keys.{events-sendings, has-due}
+use Rattle.dccp_endpoint.proofs.Room.{due-few}
+use Rattle.feature_machine.proofs.DueKeys.{due_distinct}
 use Rattle.dccp_endpoint.proofs.OwnPackets.{own_packets_say}
 use Rattle.dccp_endpoint.specs.Heeding.{DueConfirm, ReadingState, heard_turns, heeds, unheeded}
 use Rattle.dccp_endpoint.specs.Saying.{change_if, changes_among, confirm_for, own_options, said_of, said_to}
 use Rattle.dccp_endpoint.specs.Speaking.{change_items, confirm_items, wish_bytes}
 use Rattle.dccp_endpoint.specs.Turns.{Key, sendings}
+use Rattle.two_ends.proofs.OfFeatures.KeyHearing.{entries-length}
 use Rattle.two_ends.proofs.OfFeatures.FewOptions.{changes_read, changes-as-read, heeded-few, vector-changes, vector-length, written-changes, written-length}
 use Rattle.dccp_endpoint.proofs.OneConfirm.{whole-heard}
 use Rattle.two_ends_progress.proofs.RowSteps.{Ends, change-answered, change-stays, confirm-settles}
@@ -37,10 +40,6 @@ over-twice k = by k.1 refl where
   by : (p : Place) → k.1 ≡ p → over (over k) ≡ k
   by Here is = ap (λ (p : Place). (k.0, opposite (opposite p))) is ∙ ap (λ (p : Place). (k.0, p)) (sym is)
   by There is = ap (λ (p : Place). (k.0, opposite (opposite p))) is ∙ ap (λ (p : Place). (k.0, p)) (sym is)
-
-entries-length : (place : ℕ) (items : List Item) → length (entries_at place items) ≡ length items
-entries-length place [] = refl
-entries-length place (item ∷ rest) = ap suc (entries-length (place + length (spelled item.mandatory item.kind item.body)) rest)
 
 -- own options are few
 own-few : (has_vector : Bool) (vectors : Vectors) (set : MarkedSet) (greatest : ℕ) (confirms : List DueConfirm) (rows : List Row) (keys : List Key)
@@ -102,7 +101,7 @@ module _ (rows : List Row) (sound : IsNegotiation rows) (n : ℕ) where
   sent-row k due is =
       turned-row k.0 k.1 (sendings n (due_keys rows)) rows sound.size
       ∙ ap (row_turned (row_at rows k.0 k.1))
-      (events-sendings n k (due_keys rows) (due-distinct rows sound) ∙ ap (λ (b : Bool). if b then Sends n ∷ [] else []) (has-due rows k sound ∙ is))
+      (events-sendings n k (due_keys rows) (due_distinct rows sound) ∙ ap (λ (b : Bool). if b then Sends n ∷ [] else []) (has-due rows k sound ∙ is))
 
   pub asked-changing : (k : Key) → is_due (row_at rows k.0 k.1) ≡ true → (row_at (asked rows n) k.0 k.1).stand ≡ stand.Changing
   asked-changing k due = ap (λ (row : Row). row.stand) (sent-row k true due) ∙ sent-changing (row_at rows k.0 k.1) n due

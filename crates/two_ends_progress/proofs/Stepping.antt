@@ -143,7 +143,7 @@ configs-so w v ClientFirst arrived s acts same Server = ap (λ (h : Half). h.end
 configs-so w v ServerFirst arrived s acts same Client = ap (λ (h : Half). h.end.config) acts.resting
 configs-so w v ServerFirst arrived s acts same Server = ap (λ (h : Half). h.end.config) acts.acting ∙ same
 
-longer-so : {A : Type 0} (half : Half) (arrived : Option ℕ) (s : Step A) → length (moved half arrived s).frames ≤ length half.frames + 1
+pub longer-so : {A : Type 0} (half : Half) (arrived : Option ℕ) (s : Step A) → length (moved half arrived s).frames ≤ length half.frames + 1
 longer-so half arrived s =
     let one = sent-few (length (moved half arrived s).processed) (floor_of s.after) s.frame in
     omega (

@@ -1,5 +1,6 @@
 -- The timer ack in OPEN sends an Ack with an Ack Vector alone, in either form, and no end finds a fault in that.
 use Rattle.std.proofs.Common.{◌≡◌, refl, sym, subst, ℕ, ◌+◌, Bool, true, false, List, [], ◌∷◌, ◌++◌, append-nil, length, map, Option, Some, Ok, arith}
+use Rattle.dccp_endpoint.proofs.OwnPackets.{vector_parts}
 use Rattle.std.proofs.lemmas.Bool.{and_parts}
 use Rattle.ack_vectors.specs.Vector.{option_data, vector_under}
 use Rattle.dccp_options.specs.Grammar.{Entry}
@@ -42,12 +43,8 @@ vectors-passed count ack h (body ∷ rest) place =
     let passed : heeds_entry count ack h entry ≡ Ok h = vector-passed count true ack h (place + 0) body (vector-understood (length body)) in
     rw passed (vectors-passed count ack h rest _)
 
--- The options of an Ack that has a vector alone.
-abbrev pub bodies-of : Bool → Vectors → MarkedSet → ℕ → List (List ℕ)
-bodies-of true vectors set ack = option_data (vector_under (has set.numbers) set.floor ack vectors)
-bodies-of false vectors set ack = []
-
-bodies-so : (b : Bool) (vectors : Vectors) (set : MarkedSet) (ack : ℕ) → vector_items b vectors set ack ++ [] ≡ map vector_item (bodies-of b vectors set ack)
+-- the options of an Ack that has a vector alone
+bodies-so : (b : Bool) (vectors : Vectors) (set : MarkedSet) (ack : ℕ) → vector_items b vectors set ack ++ [] ≡ map vector_item (vector_parts b vectors set ack)
 bodies-so true vectors set ack = append-nil _
 bodies-so false vectors set ack = refl
 
@@ -79,7 +76,7 @@ ack-alone e in_flight is_phase =
       sendable =
           front-confirming-sendable (kind.Ack (Long e.marks.gsr)) (vector_items (sends_vectors e.rows) e.config.vectors e.received.set e.marks.gsr) [] refl tt refl
           (vector-front (sends_vectors e.rows) e.config.vectors e.received.set e.marks.gsr) no-confirms;
-      bodies = bodies-of (sends_vectors e.rows) e.config.vectors e.received.set e.marks.gsr;
+      bodies = vector_parts (sends_vectors e.rows) e.config.vectors e.received.set e.marks.gsr;
       options_are = bodies-so (sends_vectors e.rows) e.config.vectors e.received.set e.marks.gsr;
       says = record { config = refl; phase = is_phase; rows_are = refl; gsr_is = refl; gss_is = refl; frame_is = refl };
       not_owed = refl;

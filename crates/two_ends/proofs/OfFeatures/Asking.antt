@@ -1,5 +1,6 @@
 -- What no frame asks for stays, and the last lists that were sent are the active ones.
 use Rattle.std.proofs.Common.{◌≡◌, refl, ap, sym, ◌∙◌, ℕ, ◌||◌, Bool, true, false, List, Option, Some, None, inl, inr}
+use Rattle.std.proofs.lemmas.Bool.{or_parts}
 use Rattle.two_ends.proofs.OfFeatures.FeatureFacts.{Kept}
 use Rattle.two_ends.proofs.OfFeatures.FeatureFrames.{change_seen}
 use Rattle.two_ends.proofs.OfFeatures.FeatureSteps.{reached_keeps}
@@ -65,10 +66,6 @@ initial-is feature location = by (described feature).is_server_priority location
   by false end.Server = refl
   by false end.Client = refl
 
-neither : (one another : Bool) → (one || another) ≡ false → (one ≡ false) × (another ≡ false)
-neither true another none = cc none
-neither false another none = (refl, none)
-
 -- a row in STABLE has no wish that waits
 pub none-pending : (feature : Feature) (place : Place) (stand : Stand) (pending : Option Wanted) → stand ≡ Stable
     → is_pending feature place stand pending ≡ true → pending ≡ None
@@ -88,7 +85,7 @@ module _ (w : WorldState) (logs : Side → List Logged)
 
   both-initial : pair_was_negotiated w pair ≡ false → (server.value ≡ initial_of pair.feature) × (client.value ≡ initial_of pair.feature)
   both-initial none =
-      let parts = neither (side_changed w pair Client) (side_changed w pair Server) none in
+      let parts = or_parts (side_changed w pair Client) (side_changed w pair Server) none in
       let values =
       untouched (pair_of pair.feature (end_at pair.location)) server client r.reached (sym (changed-is w logs spoken pair Server r.servers) ∙ parts.1)
       (sym (changed-is w logs spoken pair Client r.clients) ∙ parts.0) in

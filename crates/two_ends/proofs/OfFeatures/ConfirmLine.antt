@@ -63,13 +63,12 @@ module _ (iss greatest count : ℕ) (row : Row) (there frames : List FeatureNews
         → RowMoves row there (side_of iss row greatest frames) (side_of iss (row_line row stand (Confirmed confirms)).row count frames)
     confirm_line Stable stands confirms is = ignores
     confirm_line Unstable stands confirms is = ignores
-    confirm_line Changing stands c.Late is = ignores
     confirm_line Changing stands c.Empty is = absurd is
     confirm_line Changing stands (c.Shared value) is = settles_at value stands is
     confirm_line Changing stands c.Held is = settles_at row.value stands is
     confirm_line Changing stands (c.Alone value) is = absurd is
     confirm_line Changing stands (c.Told value) is = settles_at value stands is
-    confirm_line Changing stands c.Wrong is = ignores
+    confirm_line Changing stands _ is = ignores
 
   -- a Confirm that is not from before the last opening acknowledges it, or a later frame
   early_enough : (ack : ℕ) → IsBegun iss row → IsNumber iss ack → answers_opening row.opened (Some ack) ≡ true
@@ -134,12 +133,11 @@ module _ (iss greatest count : ℕ) (row : Row) (there frames : List FeatureNews
       by_rule : (priority : Bool) → is_server_priority row ≡ priority → (bytes : List ℕ)
           → carried_at there count ≡ confirmed_by priority (width row) acknowledged bytes → is_whole_by priority bytes ≡ true
           → (wish : List ℕ) × Confirms acknowledged wish (timely_confirmation row bytes)
-      by_rule true is [] carries has = absurd (true≢false (sym has))
-      by_rule true is (value ∷ []) carries has = absurd (true≢false (sym has))
       by_rule true is (value ∷ (first ∷ rest)) carries has =
           (first ∷ rest, rw is (list_confirms sound is acknowledged value first rest carries early))
       by_rule false is [] carries has = absurd (true≢false (sym has))
       by_rule false is (byte ∷ bytes) carries has = ([], rw is (number_confirms sound is acknowledged (byte ∷ bytes) carries early))
+      by_rule true is _ carries has = absurd (true≢false (sym has))
 
   confirms : IsSoundRow row → IsBegun iss row → (body : List ℕ) (ack : ℕ) → IsNumber iss ack
       → carried_at there count ≡ confirm_in row.feature (count_of iss ack) body → is_whole_confirm row.feature body ≡ true

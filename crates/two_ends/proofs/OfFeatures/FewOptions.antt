@@ -11,17 +11,17 @@ use Rattle.dccp_options.specs.Kinds.{is_understood}
 use Rattle.dccp_options.specs.Written.{Item, entries_at, spelled}
 use Rattle.dccp_options.specs.declared.option.OptFault.{OptFault}
 use Rattle.dccp_packets.specs.declared.reset_code.ResetCode.TheVariants as codes
-use Rattle.dccp_endpoint.proofs.Keys.{due-few, unconfirmed-few}
 use Rattle.dccp_endpoint.proofs.OwnPackets.{parts-are, vector_parts}
+use Rattle.dccp_endpoint.proofs.Short.{changes_negotiate, confirms_negotiate}
 use Rattle.dccp_endpoint.specs.Heeding.{DueConfirm, ReadingState, by_answered, by_settling, counted, fault_of, heeds, heeds_body, heeds_change, heeds_entry, heeds_feature, heeds_first, heeds_then, is_change, is_left, is_of_negotiation, met, misunderstood, place_in_used}
 use Rattle.dccp_endpoint.specs.Reporting.{vector_item, vector_items}
-use Rattle.dccp_endpoint.specs.Speaking.{asking, change_item, change_items, change_type, confirm_item, confirm_items, confirm_type}
+use Rattle.dccp_endpoint.specs.Speaking.{change_item, change_items, change_type, confirm_item, confirm_items, confirm_type}
 use Rattle.dccp_endpoint.specs.Turns.{Key}
 use Rattle.dccp_states.specs.declared.outcome.Fault.{Fault}
 use Rattle.feature_lists.specs.declared.features.Place.{Place}
 use Rattle.feature_lists.specs.declared.features.Place.TheVariants.{Here, There}
 use Rattle.feature_machine.specs.Answers.{ChangeAnswer, Confirming, Ignoring, Failing, answered, settling_of}
-use Rattle.feature_machine.specs.Negotiating.{IsNegotiation, changes, confirmed, due_keys, row_at}
+use Rattle.feature_machine.specs.Negotiating.{changes, confirmed, row_at}
 use Rattle.feature_machine.specs.declared.answers.Settling.{Settling}
 use Rattle.feature_machine.specs.declared.answers.Settling.TheVariants as settling
 use Rattle.feature_machine.specs.declared.row.Row.{Row}
@@ -167,26 +167,17 @@ vector-length true setting set ack rest =
     omega (arith, length-append (map vector_item parts) rest, length-map {B = Item} parts vector_item, few)
 vector-length false setting set ack rest = omega arith
 
--- all else that is written is of the negotiation
-confirm-kind : (left : Bool) → is_of_negotiation (confirm_type left) ≡ true
-confirm-kind true = refl
-confirm-kind false = refl
-
-change-kind : (place : Place) → is_of_negotiation (change_type place) ≡ true
-change-kind Here = refl
-change-kind There = refl
-
 abbrev pub IsNegotiating : Item → Type 0
 IsNegotiating item = is_of_negotiation item.kind ≡ true
 
--- Confirms and Changes are all that is written so
+-- all else that is written is of the negotiation: Confirms and Changes
 pub written-kinds : (confirms : List DueConfirm) (rows : List Row) (keys : List Key) → All IsNegotiating (confirm_items confirms ++ change_items rows keys)
 written-kinds [] rows [] = All-nil IsNegotiating
 written-kinds [] rows (k ∷ keys) =
-    All-cons IsNegotiating (change_item k (row_at rows k.0 k.1)) (change_items rows keys) (change-kind k.1)
+    All-cons IsNegotiating (change_item k (row_at rows k.0 k.1)) (change_items rows keys) (changes_negotiate k.1)
     (written-kinds [] rows keys)
 written-kinds (due ∷ confirms) rows keys =
-    All-cons IsNegotiating (confirm_item due) (confirm_items confirms ++ change_items rows keys) (confirm-kind due.left) (written-kinds confirms rows keys)
+    All-cons IsNegotiating (confirm_item due) (confirm_items confirms ++ change_items rows keys) (confirms_negotiate due.left) (written-kinds confirms rows keys)
 
 -- one option for each Confirm and each row that asks
 pub written-length : (confirms : List DueConfirm) (rows : List Row) (keys : List Key)
@@ -194,9 +185,3 @@ pub written-length : (confirms : List DueConfirm) (rows : List Row) (keys : List
 written-length confirms rows keys =
     length-append (confirm_items confirms) (change_items rows keys)
     ∙ omega (arith, length-map {B = Item} confirms confirm_item, length-map {B = Item} keys (λ (k : Key). change_item k (row_at rows k.0 k.1)))
-
--- eighteen rows ask at most
-pub asking-few : (rows : List Row) (confirms : List DueConfirm) → IsNegotiation rows → length (asking rows confirms) ≤ 18
-asking-few rows confirms its =
-    let few = unconfirmed-few confirms (due_keys rows) in
-    omega (arith, few, due-few rows its)

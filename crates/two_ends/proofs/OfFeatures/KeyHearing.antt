@@ -94,10 +94,7 @@ well-heard : (iss count : ℕ) (row : Row) (there : List FeatureNews) (events : 
 well-heard iss count row there [] inside carries well = inside
 well-heard iss count row there (Change body mandatory ∷ []) inside carries well = (carries, well)
 well-heard iss count row there (Confirm body (Some ack) ∷ []) inside carries well = (well.0, carries, well.1)
-well-heard iss count row there (Confirm body None ∷ []) inside carries well = absurd well
-well-heard iss count row there (Prefers wish ∷ []) inside carries well = absurd well
-well-heard iss count row there (Offers confirmed ∷ []) inside carries well = absurd well
-well-heard iss count row there (Sends number ∷ []) inside carries well = absurd well
+well-heard iss count row there (_ ∷ []) inside carries well = absurd well
 well-heard iss count row there (first ∷ (second ∷ rest)) inside carries well = absurd well
 
 -- It is read with the acknowledgement that it was said with.
@@ -109,10 +106,7 @@ kept-said iss k kd (Change body mandatory ∷ []) long is well = refl
 kept-said iss k kd (Confirm body (Some ack) ∷ []) long is well =
     let own : ack_of kd ≡ Some ack = cc is in
     ap (λ (a : Option ℕ). Confirm body a ∷ []) (ack-kept kd ack long own well.0.fits)
-kept-said iss k kd (Confirm body None ∷ []) long is well = absurd well
-kept-said iss k kd (Prefers wish ∷ []) long is well = absurd well
-kept-said iss k kd (Offers confirmed ∷ []) long is well = absurd well
-kept-said iss k kd (Sends number ∷ []) long is well = absurd well
+kept-said iss k kd (_ ∷ []) long is well = absurd well
 kept-said iss k kd (first ∷ (second ∷ rest)) long is well = absurd well
 
 -- the opposite of the opposite place is the place
@@ -138,7 +132,7 @@ carried-next frames place =
     let next : place + 1 ≡ suc place = omega arith in
     ap (carried_at frames) next
 
-entries-length : (place : ℕ) (items : List Item) → length (entries_at place items) ≡ length items
+pub entries-length : (place : ℕ) (items : List Item) → length (entries_at place items) ≡ length items
 entries-length place [] = refl
 entries-length place (item ∷ items) = ap suc (entries-length (place + length (spelled item.mandatory item.kind item.body)) items)
 

@@ -8,7 +8,8 @@ use Rattle.dccp_packets.specs.Grammar.{packet_type}
 use Rattle.dccp_packets.specs.Kinds.{ack_of}
 use Rattle.dccp_packets.specs.declared.header.Kind.{Kind}
 use Rattle.dccp_endpoint.proofs.FirstFaults.{changes-few}
-use Rattle.dccp_endpoint.proofs.Keys.{apart-so, due-few}
+use Rattle.dccp_endpoint.proofs.Keys.{apart-so}
+use Rattle.dccp_endpoint.proofs.Room.{asking-few, due-few}
 use Rattle.dccp_endpoint.proofs.OneConfirm.{confirms_are_single}
 use Rattle.dccp_endpoint.proofs.OwnPackets.{own_packets_say, own_packets_speak}
 use Rattle.dccp_endpoint.specs.Causes.{AcknowledgesHeard, AreHeard, Deaf, Heeds, HasFrame, Occasion, Plain, Offering, Repeating, PrefersNow as OccasionNow, PrefersLater as OccasionLater, Says, SaysNothing, SaysAll, SaysApart, counts_in, vector_of}
@@ -46,7 +47,7 @@ use Rattle.feature_machine.specs.declared.stands.Stand.{Stand}
 use Rattle.feature_machine.specs.declared.stands.Stand.TheVariants.{Stable}
 use Rattle.run_list.specs.MarkedSet.{MarkedSet}
 use Rattle.two_ends.proofs.OfWorlds.Acting.{Act, acted, config_of, drafted_by, end_of, logged_by, processed_by}
-use Rattle.two_ends.proofs.OfFeatures.FewOptions.{asking-few, changes_in, heeded-few, vector-changes, vector-length, written-changes, written-length}
+use Rattle.two_ends.proofs.OfFeatures.FewOptions.{changes_in, heeded-few, vector-changes, vector-length, written-changes, written-length}
 use Rattle.two_ends.proofs.OfWorlds.HeardTo.{HeardSo, NothingNew, Old, Newest, is-number}
 use Rattle.two_ends.proofs.OfFeatures.KeyHearing.{IsWell, KeyHears, across, came-one, few-changes, few-options, key-hears}
 use Rattle.two_ends.proofs.OfFeatures.KeyStep.{RowsHeard, key-does, keys-distinct, offered-rows, step-events}
@@ -76,10 +77,7 @@ reply-whole iss count row there (Change change mandatory ∷ []) body sound hear
 reply-whole iss count row there (Confirm confirm (Some ack) ∷ []) body sound heard due =
     let none : reply_due row (Confirm confirm (Some ack) ∷ []) ≡ None = confirm-none row row.stand _ in
     cc (due, none)
-reply-whole iss count row there (Confirm confirm None ∷ []) body sound heard due = absurd heard
-reply-whole iss count row there (Prefers wish ∷ []) body sound heard due = absurd heard
-reply-whole iss count row there (Offers confirmed ∷ []) body sound heard due = absurd heard
-reply-whole iss count row there (Sends number ∷ []) body sound heard due = absurd heard
+reply-whole iss count row there (_ ∷ []) body sound heard due = absurd heard
 reply-whole iss count row there (first ∷ (second ∷ rest)) body sound heard due = absurd heard
 
 -- the same of what a row hears, and that it was a newest packet

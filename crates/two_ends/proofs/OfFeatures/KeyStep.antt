@@ -1,7 +1,8 @@
 -- What else happens to a row in a step, by the step's occasion, and when its Change goes out.
 use Rattle.std.proofs.Common.{◌≡◌, ◌≢◌, ◌⊎◌, inl, inr, refl, ap, sym, ◌∙◌, subst, ℕ, ◌&&◌, not, Bool, true, false, List, [], ◌∷◌, ◌++◌, Some, None, Ok, arith}
 use Rattle.std.proofs.lemmas.List.{append_assoc}
-use Rattle.dccp_endpoint.proofs.Keys.{AreDistinct, asking-distinct, confirmed-some, due-distinct, events-offerings, events-sendings, has-asking, has-due, has-one, key-so, none-confirmed, none-distinct, one-distinct}
+use Rattle.feature_machine.proofs.DueKeys.{due_distinct}
+use Rattle.dccp_endpoint.proofs.Keys.{AreDistinct, asking-distinct, confirmed-some, events-offerings, events-sendings, has-asking, has-due, has-one, key-so, none-confirmed, none-distinct, one-distinct}
 use Rattle.dccp_endpoint.proofs.OneRow.{events-append}
 use Rattle.dccp_endpoint.specs.Calling.{is_asking_now}
 use Rattle.dccp_endpoint.specs.Causes.{Occasion, Plain, Offering, Repeating, PrefersNow as OccasionNow, PrefersLater as OccasionLater}
@@ -179,24 +180,22 @@ module _ (e : EndState) (input : Input) (rows : IsNegotiation e.rows) (heard : L
   pub key-confirmed : (k : Key) (body : List ℕ) (offered preferred : List Turn) (keys : List Key) → Occasion e input heard confirms offered preferred keys
       → confirm_for k confirms ≡ Some body
       → (events_of k.0 k.1 offered ++ events_of k.0 k.1 preferred ≡ []) ⊎ (events_of k.0 k.1 offered ++ events_of k.0 k.1 preferred ≡ Offers true ∷ [])
-  key-confirmed k body _ _ _ Plain some = inl refl
   key-confirmed k body _ _ _ Offering some =
       inr (ap (λ (xs : List RowEvent). xs ++ []) (events-offerings (is_confirmed confirms) k)
       ∙ ap (λ (c : Bool). Offers c ∷ []) (confirmed-some confirms k body some))
-  key-confirmed k body _ _ _ (Repeating in_flight fired deaf quiet) some = inl refl
   key-confirmed k body _ _ _ (OccasionNow other values wish called is asks deaf quiet) some =
       let none : confirm_for k confirms ≡ None = ap (confirm_for k) quiet in
       cc (none, some)
   key-confirmed k body _ _ _ (OccasionLater other values wish called is waits deaf quiet) some =
       let none : confirm_for k confirms ≡ None = ap (confirm_for k) quiet in
       cc (none, some)
+  key-confirmed k body _ _ _ _ some = inl refl
 
   pub keys-distinct : (offered preferred : List Turn) (keys : List Key) → Occasion e input heard confirms offered preferred keys → AreDistinct keys
-  keys-distinct _ _ _ Plain = none-distinct
   keys-distinct _ _ _ Offering = asking-distinct rows-offered confirms offered-rows
-  keys-distinct _ _ _ (Repeating in_flight fired deaf quiet) = due-distinct e.rows rows
+  keys-distinct _ _ _ (Repeating in_flight fired deaf quiet) = due_distinct e.rows rows
   keys-distinct _ _ _ (OccasionNow other values wish called is asks deaf quiet) = one-distinct other
-  keys-distinct _ _ _ (OccasionLater other values wish called is waits deaf quiet) = none-distinct
+  keys-distinct _ _ _ _ = none-distinct
 
   -- A row's events in the step, in order.
   pub step-events : (k : Key) (hearing : HeardNumber) (turns offered preferred : List Turn) (keys : List Key)

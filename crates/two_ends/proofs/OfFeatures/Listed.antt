@@ -10,10 +10,8 @@ use Rattle.two_ends.specs.FeatureView.FeatureNews.{Nothing, Change, Confirm}
 use Rattle.two_ends.specs.FeatureRows.{is_whole_confirm, is_whole_by, confirm_in, confirmed_by}
 
 list_is_wish : (frame : FeatureNews) → is_listed frame ≡ true → list_of frame ≡ wish_carried frame
-list_is_wish Nothing listed = refl
-list_is_wish (Change wish) listed = refl
 list_is_wish (Confirm acknowledged value []) listed = absurd (cc listed)
-list_is_wish (Confirm acknowledged value (entry ∷ entries)) listed = refl
+list_is_wish _ listed = refl
 
 pub lists_are_wishes : (frames : List FeatureNews) → are_listed frames ≡ true → last_list frames ≡ last_wish frames
 lists_are_wishes [] listed = refl

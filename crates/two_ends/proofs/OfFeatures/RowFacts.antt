@@ -42,12 +42,7 @@ permitted_fits f.SequenceWindow place.There value priority permitted = grind ari
 permitted_fits f.AckRatio place.Here value priority permitted = grind arith
 permitted_fits f.AckRatio place.There value priority permitted = grind arith
 permitted_fits f.Ccid place value priority permitted = absurd (true≢false priority)
-permitted_fits f.ShortSeqnos place value priority permitted = absurd (true≢false priority)
-permitted_fits f.EcnIncapable place value priority permitted = absurd (true≢false priority)
-permitted_fits f.SendAckVector place value priority permitted = absurd (true≢false priority)
-permitted_fits f.SendNdpCount place value priority permitted = absurd (true≢false priority)
-permitted_fits f.MinCsCov place value priority permitted = absurd (true≢false priority)
-permitted_fits f.CheckDataChecksum place value priority permitted = absurd (true≢false priority)
+permitted_fits _ place value priority permitted = absurd (true≢false priority)
 
 -- a value that is told comes from the location, and fits
 pub record IsTold (row : Row) (body : List ℕ) : Type 0 where

@@ -39,13 +39,7 @@ permitted_there : (feature : Feature) (value : ℕ) → (described feature).is_s
     → is_permitted feature place.Here value ≡ true → is_permitted feature place.There value ≡ true
 permitted_there f.SequenceWindow value told permitted = permitted
 permitted_there f.AckRatio value told permitted = permitted
-permitted_there f.Ccid value told permitted = absurd (true≢false told)
-permitted_there f.ShortSeqnos value told permitted = absurd (true≢false told)
-permitted_there f.EcnIncapable value told permitted = absurd (true≢false told)
-permitted_there f.SendAckVector value told permitted = absurd (true≢false told)
-permitted_there f.SendNdpCount value told permitted = absurd (true≢false told)
-permitted_there f.MinCsCov value told permitted = absurd (true≢false told)
-permitted_there f.CheckDataChecksum value told permitted = absurd (true≢false told)
+permitted_there _ value told permitted = absurd (true≢false told)
 
 -- what a number among the wishes is
 record IsNumberWish (feature : Feature) (at : Place) (number : ℕ) : Type 0 where
@@ -147,8 +141,6 @@ confirm_whole row body reply mandatory sound = by_line row.stand (proposal row b
         → (row_line row stand (Proposed proposed mandatory)).answer ≡ machine.Confirms reply → is_whole_confirm row.feature reply ≡ true
     by_line stand p.Invalid mandatory valid is = absurd (valid refl)
     by_line Unstable (p.Shared value) mandatory valid is = absurd (cc is)
-    by_line Unstable p.Unshared mandatory valid is = absurd (cc is)
-    by_line Unstable (p.Told value) mandatory valid is = absurd (cc is)
     by_line Stable (p.Shared value) mandatory valid is = said value is
     by_line Stable p.Unshared false valid is = said row.value is
     by_line Stable p.Unshared true valid is = absurd (cc is)
@@ -157,6 +149,7 @@ confirm_whole row body reply mandatory sound = by_line row.stand (proposal row b
     by_line Changing p.Unshared false valid is = said row.value is
     by_line Changing p.Unshared true valid is = absurd (cc is)
     by_line Changing (p.Told value) mandatory valid is = said value is
+    by_line Unstable _ mandatory valid is = absurd (cc is)
 
 -- what a wish is made into is valid, by its sender's place
 pub wish_valid : (feature : Feature) (at : Place) (wish : Wanted) → is_wish feature at wish ≡ true
@@ -179,13 +172,7 @@ one_range : (feature : Feature) (value : ℕ) → (described feature).is_server_
     → is_permitted feature place.There value ≡ is_permitted feature place.Here value
 one_range f.SequenceWindow value told = refl
 one_range f.AckRatio value told = refl
-one_range f.Ccid value told = absurd (true≢false told)
-one_range f.ShortSeqnos value told = absurd (true≢false told)
-one_range f.EcnIncapable value told = absurd (true≢false told)
-one_range f.SendAckVector value told = absurd (true≢false told)
-one_range f.SendNdpCount value told = absurd (true≢false told)
-one_range f.MinCsCov value told = absurd (true≢false told)
-one_range f.CheckDataChecksum value told = absurd (true≢false told)
+one_range _ value told = absurd (true≢false told)
 
 -- a value is told to a row exactly by what is valid at the other place
 valid_tells : (row : Row) (body : List ℕ) → is_server_priority row ≡ false

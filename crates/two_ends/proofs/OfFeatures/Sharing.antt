@@ -75,26 +75,20 @@ StaysOr row there count value = (value ≡ row.value) ⊎ IsFirstShared row ther
 invalid-stays : (row : Row) (s : Stand) (mandatory : Bool) → (row_line row s (Proposed p.Invalid mandatory)).row.value ≡ row.value
 invalid-stays row Stable true = refl
 invalid-stays row Stable false = refl
-invalid-stays row Changing true = refl
-invalid-stays row Changing false = refl
-invalid-stays row Unstable true = refl
-invalid-stays row Unstable false = refl
+invalid-stays row _ true = refl
+invalid-stays row _ false = refl
 
 by-shared : (row : Row) (s : Stand) (mandatory : Bool) (r : Option ℕ)
     → ((row_line row s (Proposed (shared_or_not r) mandatory)).row.value ≡ row.value)
     ⊎ (r ≡ Some (row_line row s (Proposed (shared_or_not r) mandatory)).row.value)
-by-shared row Stable true (Some value) = inr refl
-by-shared row Stable false (Some value) = inr refl
-by-shared row Changing true (Some value) = inr refl
-by-shared row Changing false (Some value) = inr refl
 by-shared row Unstable true (Some value) = inl refl
 by-shared row Unstable false (Some value) = inl refl
 by-shared row Stable true None = inl refl
 by-shared row Stable false None = inl refl
-by-shared row Changing true None = inl refl
-by-shared row Changing false None = inl refl
-by-shared row Unstable true None = inl refl
-by-shared row Unstable false None = inl refl
+by-shared row _ true (Some value) = inr refl
+by-shared row _ false (Some value) = inr refl
+by-shared row _ true None = inl refl
+by-shared row _ false None = inl refl
 
 by-list : (row : Row) (s : Stand) (mandatory : Bool) (theirs : List ℕ)
     → ((row_line row s (Proposed (list_proposal row theirs) mandatory)).row.value ≡ row.value)
@@ -195,11 +189,10 @@ sending-holds : (row : Row) (s : Stand) (number : ℕ) (opened : Option ℕ) →
 sending-holds row s number opened = grind arith
 
 own-holds : (row : Row) (given : RowEvent) → IsOwn given → (row_step row given).row.value ≡ row.value
-own-holds row (Change body mandatory) own = absurd own
-own-holds row (Confirm body ack) own = absurd own
 own-holds row (Prefers wish) own = prefers-holds row row.stand wish
 own-holds row (Offers confirmed) own = offered-holds row row.stand confirmed row.offer
 own-holds row (Sends number) own = sending-holds row row.stand number row.opened
+own-holds row _ own = absurd own
 
 abbrev AreOwn : List Turn → Type 0
 AreOwn [] = Unit {0}

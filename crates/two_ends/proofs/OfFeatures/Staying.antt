@@ -8,12 +8,8 @@ use Rattle.two_ends.specs.FeatureMoves.Move.{Passes, Settles, Answers, Waits, Op
 pub value_stays : (rule : Rule) (opens : List ℕ → Bool) (there : List FeatureNews) (side after : FeatureSide) → Move rule opens there side after
     → ((count : ℕ) (wish : List ℕ) → side.greatest < count → wish_carried (carried_at there count) ≡ Some wish → rule side.active wish ≡ None)
     → after.value ≡ side.value
-value_stays rule opens there side _ (Passes count newer sent_there) none = refl
 value_stays rule opens there side _ (Settles count acknowledged value wish newer carried changing answers is) none =
     is ∙ ap (λ (found : Option ℕ). unwrap_or found side.value) (none count wish newer (ap wish_carried carried))
 value_stays rule opens there side _ (Answers count wish newer carried) none =
     ap (λ (found : Option ℕ). unwrap_or found side.value) (none count wish newer (ap wish_carried carried))
-value_stays rule opens there side _ (Waits busy) none = refl
-value_stays rule opens there side _ (Opens wish may) none = refl
-value_stays rule opens there side _ Sends none = refl
-value_stays rule opens there side _ (Sends_again busy) none = refl
+value_stays rule opens there side _ _ none = refl

@@ -37,10 +37,7 @@ heard_sound iss count row there [] heard sound = sound
 heard_sound iss count row there (machine.Change body mandatory ∷ []) heard sound = step_sound row (machine.Change body mandatory) sound tt
 heard_sound iss count row there (machine.Confirm body (Some ack) ∷ []) heard sound =
     step_sound row (machine.Confirm body (Some ack)) sound tt
-heard_sound iss count row there (machine.Confirm body None ∷ []) heard sound = absurd heard
-heard_sound iss count row there (machine.Prefers wish ∷ []) heard sound = absurd heard
-heard_sound iss count row there (machine.Offers confirmed ∷ []) heard sound = absurd heard
-heard_sound iss count row there (machine.Sends number ∷ []) heard sound = absurd heard
+heard_sound iss count row there (_ ∷ []) heard sound = absurd heard
 heard_sound iss count row there (first ∷ (second ∷ rest)) heard sound = absurd heard
 
 pub heard_begun : (iss count : ℕ) (row : Row) (there : List FeatureNews) (events : List RowEvent) → IsHeardOf iss row there count events
@@ -48,22 +45,14 @@ pub heard_begun : (iss count : ℕ) (row : Row) (there : List FeatureNews) (even
 heard_begun iss count row there [] heard begun = begun
 heard_begun iss count row there (machine.Change body mandatory ∷ []) heard begun = change_begun iss row body mandatory begun
 heard_begun iss count row there (machine.Confirm body (Some ack) ∷ []) heard begun = confirm_begun iss row body (Some ack) begun
-heard_begun iss count row there (machine.Confirm body None ∷ []) heard begun = absurd heard
-heard_begun iss count row there (machine.Prefers wish ∷ []) heard begun = absurd heard
-heard_begun iss count row there (machine.Offers confirmed ∷ []) heard begun = absurd heard
-heard_begun iss count row there (machine.Sends number ∷ []) heard begun = absurd heard
+heard_begun iss count row there (_ ∷ []) heard begun = absurd heard
 heard_begun iss count row there (first ∷ (second ∷ rest)) heard begun = absurd heard
 
 -- an answer's frames are those with the Confirm that it is
 answer_frames : (feature : Feature) (count : ℕ) (answer : RowAnswer) (frames : List FeatureNews)
     → with_answer feature count answer frames ≡ with_reply feature count (confirm_of answer) frames
 answer_frames feature count (Confirms body) frames = refl
-answer_frames feature count Ignored frames = refl
-answer_frames feature count Settled frames = refl
-answer_frames feature count (Fatal code) frames = refl
-answer_frames feature count Opens frames = refl
-answer_frames feature count Waits frames = refl
-answer_frames feature count Quiet frames = refl
+answer_frames feature count _ frames = refl
 
 -- a Confirm is never answered by one
 confirm_quiet : (row : Row) (stand : Stand) (confirms : Confirmation) → confirm_of (row_line row stand (Confirmed confirms)).answer ≡ None
@@ -86,10 +75,7 @@ module _ (iss greatest count : ℕ) (row : Row) (there frames : List FeatureNews
       subst (λ reply. RowMoves row there (side_of iss row greatest frames) (side_of iss after count (with_reply row.feature count reply frames)))
       (sym (confirm_quiet row row.stand (confirmation row body (Some ack))))
       (confirm_moves iss greatest count row there frames newer body ack sound begun heard.0 heard.1 heard.2)
-  heard_moves (machine.Confirm body None ∷ []) heard = absurd heard
-  heard_moves (machine.Prefers wish ∷ []) heard = absurd heard
-  heard_moves (machine.Offers confirmed ∷ []) heard = absurd heard
-  heard_moves (machine.Sends number ∷ []) heard = absurd heard
+  heard_moves (_ ∷ []) heard = absurd heard
   heard_moves (first ∷ (second ∷ rest)) heard = absurd heard
 
   module _ (events : List RowEvent) (heard : IsHeardOf iss row there count events) where

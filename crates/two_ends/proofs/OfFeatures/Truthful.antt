@@ -34,14 +34,12 @@ answer_rises rule side peer count value newer kept facts = grind (arith, frame_i
 
 move_rises : (rule : Rule) (opens : List ℕ → Bool) (peer side after : FeatureSide) → Move rule opens peer.frames side after
     → Kept rule side peer → Rises side.frames → Rises after.frames
-move_rises rule opens peer side _ (Passes count newer sent_there) kept facts = facts
-move_rises rule opens peer side _ (Settles count acknowledged value wish newer carried changing answers ruled) kept facts = facts
 move_rises rule opens peer side _ (Answers count wish newer carried) kept facts =
     answer_rises rule side peer count (unwrap_or (rule side.active wish) side.value) newer kept facts
-move_rises rule opens peer side _ (Waits busy) kept facts = facts
 move_rises rule opens peer side _ (Opens wish may) kept facts = change_rises side.frames wish facts
 move_rises rule opens peer side _ Sends kept facts = plain_rises side.frames facts
 move_rises rule opens peer side _ (Sends_again busy) kept facts = change_rises side.frames side.active facts
+move_rises rule opens peer side _ _ kept facts = facts
 
 server_rises : (pair : Pair) (server client : FeatureSide) → HaveReached pair server client → Rises server.frames
 server_rises pair _ _ (Starts servers clients) = nothing_rises

@@ -54,18 +54,14 @@ IsStill (Offered confirmed offer) = Unit {0}
 IsStill (Sending number opened) = ⊥
 
 still-active : (row : Row) (s : Stand) (h : TableEvent) → IsStill h → (row_line row s h).row.active ≡ row.active
-still-active row s (Proposed proposal mandatory) still = grind arith
-still-active row s (Confirmed confirmation) still = grind arith
 still-active row s (Preferred wish) still = absurd still
-still-active row s (Offered confirmed offer) still = grind arith
 still-active row s (Sending number opened) still = absurd still
+still-active row s _ still = grind arith
 
 still-pending : (row : Row) (s : Stand) (h : TableEvent) → IsStill h → (row_line row s h).row.pending ≡ row.pending
-still-pending row s (Proposed proposal mandatory) still = grind arith
-still-pending row s (Confirmed confirmation) still = grind arith
 still-pending row s (Preferred wish) still = absurd still
-still-pending row s (Offered confirmed offer) still = grind arith
 still-pending row s (Sending number opened) still = absurd still
+still-pending row s _ still = grind arith
 
 still-keeps : (row : Row) (s : Stand) (h : TableEvent) → IsStill h → latest (row_line row s h).row ≡ latest row
 still-keeps row s h still =
@@ -105,9 +101,8 @@ preferred-latest row Unstable wish is = refl
 not-waiting : (feature : Feature) (place : Place) (s : Stand) (pending : Option Wanted) → (s ≡ Unstable → ⊥) → is_pending feature place s pending ≡ true
     → pending ≡ None
 not-waiting feature place s None apart is = refl
-not-waiting feature place Stable (Some wish) apart is = cc is
-not-waiting feature place Changing (Some wish) apart is = cc is
 not-waiting feature place Unstable (Some wish) apart is = absurd (apart refl)
+not-waiting feature place _ (Some wish) apart is = cc is
 
 -- a sound row wants its latest wish
 pub wants : (row : Row) (wish : Option Wanted) → IsSoundRow row → latest row ≡ wish → WantsValues row (entries_of wish)
@@ -168,11 +163,8 @@ calm-append [] later calm more = more
 calm-append (first ∷ rest) later calm more = (calm.0, calm-append rest later calm.1 more)
 
 calm-fits : (row : Row) (given : RowEvent) → IsCalm given → IsEventFor row given
-calm-fits row (Change body mandatory) calm = tt
-calm-fits row (Confirm body ack) calm = tt
 calm-fits row (Prefers wish) calm = absurd calm
-calm-fits row (Offers confirmed) calm = tt
-calm-fits row (Sends number) calm = tt
+calm-fits row _ calm = tt
 
 one-keeps : (k : Key) (first : Turn) (rows : List Row) → IsNegotiation rows → IsCalm first.event
     → latest (row_at (stepped rows first.feature first.place first.event).rows k.0 k.1) ≡ latest (row_at rows k.0 k.1)

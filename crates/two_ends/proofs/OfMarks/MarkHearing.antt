@@ -1,5 +1,6 @@
 -- What a packet that is heard does to the marks is moves of its side.
 use Rattle.std.proofs.Common.{◌≡◌, ◌≢◌, ◌⊎◌, inl, inr, refl, ap, sym, ◌∙◌, subst, ℕ, suc, ◌+◌, ◌-◌, ◌^◌, ◌<◌, ◌≤◌, max, min, nat_lt, Bool, true, false, List, [], ◌∷◌, ◌++◌, length, map, arith}
+use Rattle.std.proofs.lemmas.Bool.{false_from_ne_true}
 use Rattle.std.proofs.lemmas.List.{append-nil, length-map, map-append}
 use Rattle.std.proofs.lemmas.List.Elements.{All-cons, All-nil}
 use Rattle.std.proofs.lemmas.Option.{slice_get_within}
@@ -52,10 +53,6 @@ pub record IsTaking (act : Act) (view peer : MarkSide) (received : KeptNumbers) 
   pub packets : All (IsPacketOf (config_of act.peer).iss act.peer.log) numbers
   pub records : (r : VectorRecord) → Contains received.records r → Contains (end_of act.side).received.records r
   pub some : (is_first : Bool) (number : ℕ) (how : PacketFate) → act.effect.hearing ≡ Heard is_first number how → 1 ≤ after.first
-
-closed-not : (b : Bool) → (b ≡ true → ⊥) → b ≡ false
-closed-not true none = absurd (none refl)
-closed-not false none = refl
 
 new-is : (m : Marked) → is_new m ≡ true → m ≡ New
 new-is New is = refl
@@ -136,7 +133,7 @@ module _ (act : Act) (peer_ordered : IsOrdered act.peer) (view peer : MarkSide) 
       }
 
   open-so : (is_live e.phase ≡ true) ⊎ (is_waiting e.phase ≡ true) → view.closed ≡ false
-  open-so entered = closed-not view.closed (λ is. not-entered e.phase (here.closed is).1 entered)
+  open-so entered = false_from_ne_true view.closed (λ is. not-entered e.phase (here.closed is).1 entered)
 
   newly-none : count_by e.marked e.received f.hearing ≡ e.marked → newly_processed e act.arrived (end_after e f) ≡ []
   newly-none same =

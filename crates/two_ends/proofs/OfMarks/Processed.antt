@@ -1,5 +1,6 @@
 -- What a side processed is what its view has: the numbers, and the vectors of its frames.
 use Rattle.std.proofs.Common.{◌≡◌, refl, ap, sym, ◌∙◌, subst, ℕ, zero, suc, ◌+◌, ◌^◌, ◌<◌, ◌≤◌, ◌==◌, ◌||◌, nat_le, Bool, true, false, List, [], ◌∷◌, length, min, arith}
+use Rattle.std.proofs.lemmas.Bool.{eq-eqb, eqb-true, leb-true}
 use Rattle.std.proofs.lemmas.List.{get_or-map, get_or-take, length-map, length-take}
 use Rattle.std.proofs.lemmas.List.Folds.{list_any_at}
 use Rattle.std.specs.List.{Contains}
@@ -19,15 +20,9 @@ use Rattle.two_ends.proofs.OfWorlds.Numbering.{IsOrdered, few-logged}
 use Rattle.two_ends.proofs.OfMarks.Shown.{or-any, place-at, same-counts}
 use Rattle.two_ends.proofs.OfMarks.Vectors.{IsFrame, frames-length}
 
-equal : (m n : ℕ) → (m == n) ≡ true → m ≡ n
-equal m n same = grind arith
-
-equal-so : (m n : ℕ) → m ≡ n → (m == n) ≡ true
-equal-so m n same = grind arith
-
 -- where a list has a number
 pub has-at : (ns : List ℕ) (i n : ℕ) → i < length ns → slice_index_or ns i 0 ≡ n → has ns n ≡ true
-has-at ns i n below is = list_any_at (λ m. m == n) ns i 0 below (equal-so (slice_index_or ns i 0) n is)
+has-at ns i n below is = list_any_at (λ m. m == n) ns i 0 below (eq-eqb (slice_index_or ns i 0) n is)
 
 -- a number of a list is at a place of it
 pub at-has : (ns : List ℕ) (n : ℕ) → has ns n ≡ true → (i : ℕ) × (i < length ns) × (slice_index_or ns i 0 ≡ n)
@@ -36,7 +31,7 @@ at-has (m ∷ ms) n is = by (m == n) refl is (λ later. at-has ms n later) where
   by : (same : Bool) → (m == n) ≡ same → (same || has ms n) ≡ true
       → (has ms n ≡ true → (i : ℕ) × (i < length ms) × (slice_index_or ms i 0 ≡ n))
       → (i : ℕ) × (i < length (m ∷ ms)) × (slice_index_or (m ∷ ms) i 0 ≡ n)
-  by true same is again = (0, omega arith, equal m n same)
+  by true same is again = (0, omega arith, eqb-true m n same)
   by false same is again =
       let later = again is in
       (suc later.0, omega (arith, later.1), later.2)
@@ -52,9 +47,6 @@ early-contains early ns n is =
 -- below its floor a vector reports nothing
 states-none : (one other : ℕ → ℕ) (floor ack : ℕ) → is_from floor ack ≡ false → states_between one floor ack ≡ states_between other floor ack
 states-none one other floor ack below = rw below refl
-
-le-so : (a b : ℕ) → nat_le a b ≡ true → a ≤ b
-le-so a b is = grind arith
 
 -- a count up to another is not after it on the circle
 pub not-after : (iss ack count : ℕ) → iss < 2 ^ 48 → 1 ≤ count → count ≤ ack → ack ≤ 2 ^ 47 → IsBefore (number_of iss ack) (number_of iss count) → ⊥
@@ -241,7 +233,7 @@ module _ (x y : Party) (others : IsOrdered y) (m : IsMarking x y) where
       by true ahead =
           let are = its.marks vector-there in
           let below : g.floor ≤ g.acknowledged =
-          le-so g.floor g.acknowledged
+          leb-true g.floor g.acknowledged
           (sym (from-counts iss g.floor g.acknowledged fits are.floor_some are.floor_early (its.some is-ack) (omega (arith, its.early is-ack))) ∙ ahead) in
           vector-same (room_of setting) (set_states (has its.set.numbers)) (set_states (has early-list)) floor ack (omega arith) (omega arith)
           (λ n small from inside. states-so n small below inside)

@@ -78,12 +78,10 @@ module _ (e : EndState) where
   quiet-sync bytes number (Unexpected a entered valid out same) f form = as-heard f _ (hears_first e) a.number Refused refl form
 
   quiet-reset : (bytes : List ℕ) (fault : Fault) (why : IsReset e bytes fault) (f : Effect) → f ≡ effect_of_reset e bytes fault why → IsQuiet f
-  quiet-reset bytes fault (NoConnection a came is) f form = as-sent f _ refl form
-  quiet-reset bytes fault (OtherService a came is other) f form = as-sent f _ refl form
-  quiet-reset bytes fault (NoAnswer a came no_answer) f form = as-sent f _ refl form
   quiet-reset bytes fault (WrongService a entered valid expected other) f form = as-heard f _ (hears_first e) a.number Shut refl form
   quiet-reset bytes fault (Faulted a entered first admitted is) f form = as-heard f _ (hears_first e) a.number Shut refl form
   quiet-reset bytes fault (AnswersClose a entered h to admitted is row) f form = as-heard f _ (hears_first e) a.number Taken refl form
+  quiet-reset bytes fault _ f form = as-sent f _ refl form
 
   quiet : (bytes : List ℕ) (o : Outcome) (cause : HasCause e bytes o) (f : Effect) (turns : AreTurns e (Arrives bytes) f.hearing f.turns)
       → HasForm e bytes o cause f turns → IsQuiet f

@@ -3,6 +3,7 @@ use Rattle.std.proofs.Common.{◌≡◌, ◌≢◌, refl, ap, ◌∙◌, subst, 
 use Rattle.std.specs.Prelude.{is_some}
 use Rattle.std.proofs.lemmas.Option.{same_Some}
 use Rattle.dccp_endpoint.specs.declared.config.Config.{Config}
+use Rattle.dccp_endpoint.proofs.InFull.{parts_in}
 use Rattle.dccp_endpoint.proofs.OwnFrames.{type-kept}
 use Rattle.dccp_packets.proofs.Shortened.{type_in_form}
 use Rattle.dccp_packets.specs.Forms.{in_form}
@@ -16,7 +17,7 @@ use Rattle.seq_circle.specs.Circle.{residue}
 use Rattle.two_ends.specs.Frames.{is_reset, packet_of}
 use Rattle.two_ends.specs.declared.frames.SentFrame.{SentFrame}
 use Rattle.two_ends.proofs.OfWorlds.Logged.{AreLogged, IsLogged, Logged, NoFrames, Numbered, Unnumbered}
-use Rattle.two_ends.proofs.OfWorlds.ReadBack.{is-drafted, parts_of}
+use Rattle.two_ends.proofs.OfWorlds.ReadBack.{is-drafted}
 
 -- the frame of the logged packet at this place
 pub record IsSentAt (config : Config) (first : ℕ) (frames : List SentFrame) (place : ℕ) (l : Logged) : Type 0 where
@@ -58,15 +59,7 @@ sent-at config {first} place l (Unnumbered here rest) there = after-other config
 some-kept : (short : Bool) (k : Kind) → is_some (ack_of (kind_in_widths (in_form short k))) ≡ is_some (ack_of (kind_in_widths k))
 some-kept false k = refl
 some-kept true (kind.Request service) = refl
-some-kept true (kind.Response ack service) = refl
-some-kept true kind.Data = refl
-some-kept true (kind.Ack ack) = refl
-some-kept true (kind.DataAck ack) = refl
-some-kept true (kind.CloseReq ack) = refl
-some-kept true (kind.Close ack) = refl
-some-kept true (kind.Reset ack code detail) = refl
-some-kept true (kind.Sync ack) = refl
-some-kept true (kind.SyncAck ack) = refl
+some-kept true _ = refl
 
 -- what is read in the frame of a logged packet, and the numbers that are kept of it
 pub record IsReadIn (number : ℕ) (frame : SentFrame) (l : Logged) : Type 0 where
@@ -82,7 +75,7 @@ pub read-in : (config : Config) (number : ℕ) (frame : SentFrame) (l : Logged) 
 read-in config number frame l is =
     let read = is-drafted config is.short number l.draft is.sendable is.form in
     record {
-      packet = parts_of config is.short number l.draft read.sum;
+      packet = parts_in config is.short number l.draft read.sum;
       is_packet = ap (λ (f : SentFrame). packet_of f.bytes) is.same ∙ read.is_packet;
       type_is = type-kept (in_form is.short l.draft.kind) ∙ type_in_form is.short l.draft.kind;
       some_is = some-kept is.short l.draft.kind;

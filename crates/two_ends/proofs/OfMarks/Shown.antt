@@ -1,5 +1,6 @@
 -- A side of the world as a side by what it marks and reports, by counts of packets.
 use Rattle.std.proofs.Common.{◌≡◌, ◌≢◌, refl, ap, sym, ◌∙◌, ℕ, zero, suc, ◌+◌, ◌^◌, ◌<◌, ◌≤◌, ◌==◌, ◌||◌, max, Bool, true, false, List, [], ◌∷◌, Some, slice_get, length, map, arith}
+use Rattle.std.proofs.lemmas.Bool.{eqb-true, ne_eqb}
 use Rattle.std.proofs.lemmas.Map.Keys.{IsDistinct-from_apart}
 use Rattle.std.proofs.lemmas.Map.Steps.{length-le_from_distinct_below}
 use Rattle.std.specs.List.{All, Contains, list_any}
@@ -69,8 +70,6 @@ some-first zero greatest none some = absurd (omega (arith, none refl, some))
 some-first (suc first) greatest none some = omega arith
 
 -- No more packets are processed than there are.
-apart : (a b : ℕ) → (a ≡ b → ⊥) → (a == b) ≡ false
-apart a b differ = grind arith
 
 -- what is at a place does not depend on the default
 pub or-any : (ns : List ℕ) (i d e : ℕ) → i < length ns → slice_index_or ns i d ≡ slice_index_or ns i e
@@ -78,16 +77,13 @@ or-any [] i d e below = absurd (omega (arith, below))
 or-any (n ∷ ns) zero d e below = refl
 or-any (n ∷ ns) (suc i) d e below = or-any ns i d e (omega (arith, below))
 
-equal : (q n : ℕ) → (q == n) ≡ true → q ≡ n
-equal q n same = grind arith
-
 member-at : (q : ℕ) (ns : List ℕ) → list_any (λ n. q == n) ns ≡ true → (i : ℕ) × (i < length ns) × (slice_index_or ns i 0 ≡ q)
 member-at q [] is = cc is
 member-at q (n ∷ ns) is = by (q == n) refl is (λ later. member-at q ns later) where
   by : (same : Bool) → (q == n) ≡ same → (same || list_any (λ n. q == n) ns) ≡ true
       → (list_any (λ n. q == n) ns ≡ true → (i : ℕ) × (i < length ns) × (slice_index_or ns i 0 ≡ q))
       → (i : ℕ) × (i < length (n ∷ ns)) × (slice_index_or (n ∷ ns) i 0 ≡ q)
-  by true same is again = (0, omega arith, sym (equal q n same))
+  by true same is again = (0, omega arith, sym (eqb-true q n same))
   by false same is again =
       let later = again is in
       (suc later.0, omega (arith, later.1), later.2)
@@ -98,7 +94,7 @@ module _ (side : MarkSide) (there : List MarkFrame) (sound : AreSoundNumbers sid
 
   processed-apart : (i j d : ℕ) → i < j → j < length side.processed → (slice_index_or side.processed i d == slice_index_or side.processed j d) ≡ false
   processed-apart i j d before below =
-      apart (slice_index_or side.processed i d) (slice_index_or side.processed j d)
+      ne_eqb (slice_index_or side.processed i d) (slice_index_or side.processed j d)
       (λ same.
       let one = or-any side.processed i d 0 (omega (arith, before, below)) in
       let other = or-any side.processed j d 0 below in

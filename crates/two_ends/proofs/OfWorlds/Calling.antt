@@ -1,5 +1,6 @@
 -- What the calls that are due to a congestion control report and send.
 use Rattle.std.proofs.Common.{◌≡◌, refl, ap, sym, ◌∙◌, ℕ, ◌^◌, ◌<◌, ◌==◌, ◌||◌, Bool, true, false, cond, if◌then◌else◌, List, [], ◌∷◌, ◌++◌, Option, Some, None, Result, arith}
+use Rattle.std.proofs.lemmas.Bool.{eqb-true, or_right}
 use Rattle.std.proofs.lemmas.Option.{same_Some}
 use Rattle.std.specs.List.{concat, filter, list_any}
 use Rattle.congestion_trait.specs.Calls.{Call, Sends, Starts, call_sends, tells}
@@ -23,10 +24,6 @@ or-first : (x y : Bool) → y ≡ false → (x || y) ≡ true → x ≡ true
 or-first true y none is = refl
 or-first false y none is = cc (none, is)
 
-or-second : (x y : Bool) → y ≡ true → (x || y) ≡ true
-or-second true y is = refl
-or-second false y is = is
-
 or-later : (x y z : Bool) → (y ≡ true → z ≡ true) → (x || y) ≡ true → (x || z) ≡ true
 or-later true y z more is = refl
 or-later false y z more is = more is
@@ -38,7 +35,7 @@ any-left p left (call ∷ calls) is = by (left call) (any-left p left calls) is 
   by : (b : Bool) → (list_any p (filter left calls) ≡ true → list_any p calls ≡ true)
       → list_any p (cond b (call ∷ filter left calls) (filter left calls)) ≡ true → (p call || list_any p calls) ≡ true
   by true before kept = or-later (p call) (list_any p (filter left calls)) (list_any p calls) before kept
-  by false before gone = or-second (p call) (list_any p calls) (before gone)
+  by false before gone = or_right (p call) (list_any p calls) (before gone)
 
 -- A start reports and sends nothing.
 starts-tell : (n old new : ℕ) → list_any (tells n) (start_calls old new) ≡ false
@@ -114,15 +111,12 @@ for-sends a old new n =
     report-sends n (reported_from a.kind a.ack) a.options (value_in new AckRatio Here) (start_calls (value_in old Ccid Here) (value_in new Ccid Here))
     (starts-send n (value_in old Ccid Here) (value_in new Ccid Here))
 
-equal : (m n : ℕ) → (m == n) ≡ true → m ≡ n
-equal m n same = grind arith
-
 next-fits : (e : EndState) → next_number e < 2 ^ 48
 next-fits e = omega arith
 
 next-sent : (e : EndState) (n : ℕ) → list_any (call_sends n) (Sends (next_number e) ∷ []) ≡ true → n < 2 ^ 48
 next-sent e n is =
-    let same : n ≡ next_number e = equal n (next_number e) (or-first (n == next_number e) false refl is) in
+    let same : n ≡ next_number e = eqb-true n (next_number e) (or-first (n == next_number e) false refl is) in
     omega (arith, same, next-fits e)
 
 module _ (e : EndState) (given : Input) (hearing : HeardNumber) (sending : Transmission) where
@@ -133,16 +127,12 @@ module _ (e : EndState) (given : Input) (hearing : HeardNumber) (sending : Trans
     pub told : IsToldBy packet.ack packet.options n
 
   pub tells-so : (calls : List Call) → IsCalling e given hearing sending calls → (n : ℕ) → list_any (tells n) calls ≡ true → IsHeardOf n
-  tells-so _ CallsNothing n is = cc is
   tells-so _ (CallsFor a h was heeded) n is = record { packet = a; taken = was; told = for-tells a e.rows h.rows n is }
-  tells-so _ (CallsSent payload asked phase carries) n is = cc is
-  tells-so _ (CallsEarly payload asked phase carries) n is = cc is
-  tells-so _ (CallsTimeout asked phase) n is = cc is
+  tells-so _ _ n is = cc is
 
   -- What is sent, has the next number.
   pub sends-so : (calls : List Call) → IsCalling e given hearing sending calls → (n : ℕ) → list_any (call_sends n) calls ≡ true → n < 2 ^ 48
-  sends-so _ CallsNothing n is = cc is
   sends-so _ (CallsFor a h was heeded) n is = cc (for-sends a e.rows h.rows n, is)
   sends-so _ (CallsSent payload asked phase carries) n is = next-sent e n is
   sends-so _ (CallsEarly payload asked phase carries) n is = next-sent e n is
-  sends-so _ (CallsTimeout asked phase) n is = cc is
+  sends-so _ _ n is = cc is

@@ -64,15 +64,9 @@ acking-connected r _ is = refl
 -- of these types the one that is no Ack and no DataAck acknowledges nothing
 others-none : (k : Kind) → is_acking (packet_type k) ≡ false → may_be_short (packet_type k) ≡ true → ack_of (kind_in_widths k) ≡ None
 others-none kind.Data other may = refl
-others-none (kind.Request service) other may = cc may
-others-none (kind.Response ack service) other may = cc may
 others-none (kind.Ack ack) other may = cc other
 others-none (kind.DataAck ack) other may = cc other
-others-none (kind.CloseReq ack) other may = cc may
-others-none (kind.Close ack) other may = cc may
-others-none (kind.Reset ack code detail) other may = cc may
-others-none (kind.Sync ack) other may = cc may
-others-none (kind.SyncAck ack) other may = cc may
+others-none _ other may = cc may
 
 -- a packet that may be short, and is neither Ack nor DataAck, is not far by what it acknowledges
 pub others-near : (k : Kind) (gsr : ℕ) → is_acking (packet_type k) ≡ false → may_be_short (packet_type k) ≡ true

@@ -3,25 +3,25 @@ use Rattle.std.proofs.Common.{◌≡◌, ◌≢◌, inl, inr, refl, ap, sym, ◌
 use Rattle.std.proofs.lemmas.Option.{same_Some}
 use Rattle.std.specs.Result.{result_ok}
 use Rattle.seq_circle.specs.Circle.{is_ack_far, is_far, residue}
-use Rattle.dccp_options.specs.Written.{entries_at, written}
+use Rattle.dccp_options.specs.Written.{entries_at}
 use Rattle.dccp_packets.specs.Forms.{in_form, may_be_short, number_in_form}
-use Rattle.dccp_packets.specs.Grammar.{Parts, has_forms, is_long, packet_type, padded}
+use Rattle.dccp_packets.specs.Grammar.{Parts, has_forms, is_long, packet_type}
 use Rattle.dccp_packets.specs.Kinds.{ack_of}
-use Rattle.dccp_packets.specs.Widths.{in_widths, kind_in_widths, number_in_width}
+use Rattle.dccp_packets.specs.Widths.{kind_in_widths, number_in_width}
 use Rattle.dccp_packets.specs.declared.header.Kind.{Kind}
 use Rattle.dccp_packets.specs.declared.header.Kind.TheVariants as kind
 use Rattle.dccp_packets.specs.declared.header.Number.TheVariants.{Long, Short}
 use Rattle.dccp_packets.specs.declared.header.PacketType.TheVariants as types
 use Rattle.dccp_states.specs.declared.phase.Role.{Role}
 use Rattle.dccp_endpoint.specs.Causes.{Came, is_without_connection}
-use Rattle.dccp_endpoint.specs.Drafts.{Draft, IsSendable, alone, frame_of, own_header, sent_of}
+use Rattle.dccp_endpoint.specs.Drafts.{Draft, IsSendable, alone, frame_of, sent_of}
 use Rattle.dccp_endpoint.specs.End.{EndState}
 use Rattle.dccp_endpoint.specs.Incoming.{Incoming}
 use Rattle.dccp_endpoint.specs.Inputs.{Input, Arrives}
 use Rattle.dccp_endpoint.specs.InFull.{HasNearNumbers}
 use Rattle.dccp_endpoint.specs.Receiving.{takes_short}
 use Rattle.dccp_endpoint.specs.declared.config.Config.{Config}
-use Rattle.dccp_endpoint.proofs.InFull.{read-in-full}
+use Rattle.dccp_endpoint.proofs.InFull.{parts_in, read-in-full}
 use Rattle.dccp_endpoint.proofs.OwnFrames.{own_frames_read_in_widths}
 use Rattle.dccp_endpoint.proofs.Spelled.{draft-spelled}
 use Rattle.two_ends.specs.declared.frames.SentFrame.{SentFrame}
@@ -30,18 +30,9 @@ use Rattle.two_ends.specs.Numbered.{AreNumbered, IsNumberedFrame, IsResetWithout
 use Rattle.two_ends.specs.World.{as_sent, is_far_frame}
 use Rattle.two_ends.proofs.OfWorlds.Logged.{Logged, IsLogged, IsUnlogged, AreLogged, NoFrames, Numbered, Unnumbered, Found, AtPlace, Nowhere, found}
 
--- what the frame of a draft is read as
-abbrev pub parts_of : Config → Bool → ℕ → Draft → ℕ → Parts
-parts_of config short number draft sum =
-    record {
-      header = record (in_widths (own_header config short number draft.kind)) { checksum = sum };
-      options = padded (written draft.options);
-      payload = draft.payload;
-    }
-
 pub record IsDrafted (config : Config) (short : Bool) (number : ℕ) (draft : Draft) (bytes : List ℕ) : Type 0 where
   pub sum : ℕ
-  pub is_packet : packet_of bytes ≡ Some (parts_of config short number draft sum)
+  pub is_packet : packet_of bytes ≡ Some (parts_in config short number draft sum)
   pub are_options : options_in bytes ≡ map Ok (entries_at 0 draft.options)
 
 -- a packet whose type may be short has one of the two forms
@@ -59,15 +50,7 @@ is-drafted config short number draft sendable may =
 connection-formed : (r : Role) (short : Bool) (k : Kind) → is_without_connection r (in_form short k) ≡ is_without_connection r k
 connection-formed r false k = refl
 connection-formed r true (kind.Request service) = refl
-connection-formed r true (kind.Response ack service) = refl
-connection-formed r true kind.Data = refl
-connection-formed r true (kind.Ack ack) = refl
-connection-formed r true (kind.DataAck ack) = refl
-connection-formed r true (kind.CloseReq ack) = refl
-connection-formed r true (kind.Close ack) = refl
-connection-formed r true (kind.Reset ack code detail) = refl
-connection-formed r true (kind.Sync ack) = refl
-connection-formed r true (kind.SyncAck ack) = refl
+connection-formed r true _ = refl
 
 connection-kept : (r : Role) (k : Kind) → is_without_connection r (kind_in_widths k) ≡ is_without_connection r k
 connection-kept r kind.Data = refl
@@ -94,8 +77,6 @@ ack-fits _ = omega arith
 
 -- an acknowledgement that fits its field is read as it was meant
 pub ack-kept : (k : Kind) (n : ℕ) → has_forms true k ≡ true → ack_of k ≡ Some n → n < 2 ^ 48 → ack_of (kind_in_widths k) ≡ Some n
-ack-kept (kind.Request service) n long is fits = cc is
-ack-kept kind.Data n long is fits = cc is
 ack-kept (kind.Response ack service) n long is fits = (let same : ack ≡ n = cc is in ap Some (omega (arith, same, fits)))
 ack-kept (kind.Ack (Long ack)) n long is fits = (let same : ack ≡ n = cc is in ap Some (omega (arith, same, fits)))
 ack-kept (kind.Ack (Short ack)) n long is fits = cc long
@@ -106,6 +87,7 @@ ack-kept (kind.Close ack) n long is fits = (let same : ack ≡ n = cc is in ap S
 ack-kept (kind.Reset ack code detail) n long is fits = (let same : ack ≡ n = cc is in ap Some (omega (arith, same, fits)))
 ack-kept (kind.Sync ack) n long is fits = (let same : ack ≡ n = cc is in ap Some (omega (arith, same, fits)))
 ack-kept (kind.SyncAck ack) n long is fits = (let same : ack ≡ n = cc is in ap Some (omega (arith, same, fits)))
+ack-kept _ n long is fits = cc is
 
 abbrev pub one_frame : List ℕ → ℕ → Option ℕ → ℕ → ℕ → List SentFrame
 one_frame bytes number ack processed floor = record { bytes = bytes; number = number; ack = ack; processed = processed; floor = floor } ∷ []
@@ -241,7 +223,7 @@ module _ (e : EndState) (given : Input) (a : Incoming) (came : Came e given a) (
   read-as short n number draft numbered sendable may same close =
       let read = is-drafted config short number draft sendable may in
       let full = read-in-full e given a came config short number draft sendable may same close in
-      let packet : came.packet ≡ parts_of config short number draft read.sum = the-packet e given a came _ (ap packet_of same ∙ read.is_packet) in
+      let packet : came.packet ≡ parts_in config short number draft read.sum = the-packet e given a came _ (ap packet_of same ∙ read.is_packet) in
       record {
         number = full.number_is ∙ numbered;
         type = full.type_is;

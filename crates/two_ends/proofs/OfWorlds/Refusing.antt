@@ -3,7 +3,7 @@
 use Rattle.std.proofs.Common.{◌≡◌, ◌↔◌, refl, ap, sym, ◌∙◌, subst, ℕ, ◌-◌, ◌^◌, ◌<◌, ◌≤◌, Bool, true, false, if◌then◌else◌, List, Option, Some, None, Result, Ok, Err, slice_get, length, arith, ◌⊎◌, inl, inr, IfOk, IfSome}
 use Rattle.std.specs.Prelude.{get_or, is_some}
 use Rattle.std.proofs.lemmas.Bool.{false≢true, le-leb, leb-true}
-use Rattle.std.proofs.lemmas.Option.{slice_get_cases}
+use Rattle.std.proofs.lemmas.Option.{slice_get_cases, slice_get_past}
 use Rattle.congestion_trait.specs.Control.{Control}
 use Rattle.dccp_endpoint.specs.Inputs.{Arrives, Input}
 use Rattle.dccp_endpoint.specs.Inputs as input
@@ -26,13 +26,6 @@ past-end {A} xs index none = by (slice_get_cases xs index).1 where
       → length xs ≤ index
   by (inl there) = (let some = there.2 in cc (none, some))
   by (inr past) = past.0
-
-none-past : {A : Type 0} (xs : List A) (index : ℕ) → length xs ≤ index → slice_get xs index ≡ None
-none-past {A} xs index past = by (slice_get_cases xs index).1 where
-  by : ((x : A) × (index < length xs) × (slice_get xs index ≡ Some x) × (get_or xs index x ≡ x)) ⊎ ((length xs ≤ index) × (slice_get xs index ≡ None))
-      → slice_get xs index ≡ None
-  by (inl there) = (let below = there.1 in absurd (omega (arith, past, below)))
-  by (inr none) = none.1
 
 some-from : {A : Type 0} (o : Option A) → (o ≡ None → ⊥) → is_some o ≡ true
 some-from None other = absurd (other refl)
@@ -122,7 +115,7 @@ module _ {C : Type 0} (control : Control C) (w : ControlledWorld C) (from : Side
 
     far-there : is_far_at to.end at ≡ true → length frames ≤ index → ⊥
     far-there is past =
-        let nothing : false ≡ true = subst (λ (o : Option SentFrame). is_far_at to.end o ≡ true) (none-past frames index past) is in
+        let nothing : false ≡ true = subst (λ (o : Option SentFrame). is_far_at to.end o ≡ true) (slice_get_past frames index past) is in
         absurd (false≢true nothing)
 
     far-roomy : is_full to ≡ false → 2 ^ 47 - 1 ≤ length to.frames → ⊥
@@ -134,9 +127,9 @@ module _ {C : Type 0} (control : Control C) (w : ControlledWorld C) (from : Side
         (is_far_at to.end at ≡ true)
     delivery-caused =
         record {
-          lacks = (λ is. past-end frames index ((none-so at).1 is), λ past. (none-so at).0 (none-past frames index past));
+          lacks = (λ is. past-end frames index ((none-so at).1 is), λ past. (none-so at).0 (slice_get_past frames index past));
           filled = (
-            λ is. (λ past. none-not at ((full-so at).1 is).0 (none-past frames index past), leb-true (2 ^ 47 - 1) (length to.frames) ((full-so at).1 is).1),
+            λ is. (λ past. none-not at ((full-so at).1 is).0 (slice_get_past frames index past), leb-true (2 ^ 47 - 1) (length to.frames) ((full-so at).1 is).1),
             λ both. (full-so at).0 (some-from at (λ is. both.0 (past-end frames index is)), le-leb (2 ^ 47 - 1) (length to.frames) both.1),
           );
           far = (
