@@ -28,12 +28,8 @@ held-data h n payload false = refl
 
 held-by : (h : History) (n : ℕ) (bytes : List ℕ) (outcome : Outcome)
     → (delivery_by h.held n bytes outcome).inbox ≡ (history_after_all h (calls_by h.held n bytes outcome)).held
-held-by h n bytes (Took None) = refl
 held-by h n bytes (Took (Some place)) = held-data h n (slice_range bytes place.0 place.1) (fits_item h.held (slice_range bytes place.0 place.1))
-held-by h n bytes (Dropped why) = refl
-held-by h n bytes (Synced number) = refl
-held-by h n bytes (WasReset code) = refl
-held-by h n bytes (SentReset code detail) = refl
+held-by h n bytes _ = refl
 
 -- what is told of data is what became of them
 told-answer : (h : History) (n : ℕ) (payload : List ℕ) (held : InboxState) (answer : Arrival) → IsToldSo n (Some answer) h (history_answered h answer n payload held)
@@ -47,12 +43,8 @@ told-data h n payload false = told-answer h n [] (dropping h.held n) (arrivals.D
 
 told-by : (h : History) (n : ℕ) (bytes : List ℕ) (outcome : Outcome)
     → IsToldSo n (delivery_by h.held n bytes outcome).arrival h (history_after_all h (calls_by h.held n bytes outcome))
-told-by h n bytes (Took None) = refl
 told-by h n bytes (Took (Some place)) = told-data h n (slice_range bytes place.0 place.1) (fits_item h.held (slice_range bytes place.0 place.1))
-told-by h n bytes (Dropped why) = refl
-told-by h n bytes (Synced number) = refl
-told-by h n bytes (WasReset code) = refl
-told-by h n bytes (SentReset code detail) = refl
+told-by h n bytes _ = refl
 
 module _ {C : Type 0} (control : Control C) where
   pub receives-tell : (p : BufferedPast C) (bytes : List ℕ)
@@ -72,13 +64,9 @@ module _ {C : Type 0} (control : Control C) where
   data_call-goes_on false n payload = refl
 
   none-stops : (held : InboxState) (n : ℕ) (bytes : List ℕ) (outcome : Outcome) → list_any is_stop (calls_by held n bytes outcome) ≡ false
-  none-stops held n bytes (Took None) = refl
   none-stops held n bytes (Took (Some place)) =
       ap (λ (b : Bool). b || false) (data_call-goes_on (fits_item held (slice_range bytes place.0 place.1)) n (slice_range bytes place.0 place.1))
-  none-stops held n bytes (Dropped why) = refl
-  none-stops held n bytes (Synced number) = refl
-  none-stops held n bytes (WasReset code) = refl
-  none-stops held n bytes (SentReset code detail) = refl
+  none-stops held n bytes _ = refl
 
   after-accounted : (capacity : ℕ) (stopped : Bool) (p : BufferedPast C) (call : EndCall) → IsAccounted capacity stopped p.past
       → IsAccounted capacity (stopped || is_end_stop call) (past_after control p call).past

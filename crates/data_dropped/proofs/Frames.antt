@@ -11,16 +11,8 @@ use Rattle.dccp_endpoint.specs.Lengthening.{has_room_for, lengthened, says_more}
 use Rattle.data_dropped.specs.Frames.{acknowledged_by}
 
 acking-detail : (told : Option ℕ) (ack : ℕ) (k : Kind) → acknowledged_by told k ≡ Some ack → HasDetail k
-acking-detail told ack (kind.Ack n) is = tt
-acking-detail told ack (kind.DataAck n) is = tt
-acking-detail told ack (kind.Request service) is = tt
-acking-detail told ack (kind.Response n service) is = tt
-acking-detail told ack kind.Data is = tt
-acking-detail told ack (kind.CloseReq n) is = tt
-acking-detail told ack (kind.Close n) is = tt
 acking-detail told ack (kind.Reset n code detail) is = absurd cc
-acking-detail told ack (kind.Sync n) is = tt
-acking-detail told ack (kind.SyncAck n) is = tt
+acking-detail told ack _ is = tt
 
 pub lengthened-read : (pseudo : Pseudo) (told : Option ℕ) (ack : ℕ) (p : Parts) (more : List ℕ) → acknowledged_by told p.header.kind ≡ Some ack
     → p.header.cscov ≡ 0

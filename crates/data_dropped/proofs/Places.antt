@@ -38,7 +38,4 @@ taken-within e bytes delivered taken =
 
 pub data_within : (e : EndState) (bytes : List ℕ) (outcome : Outcome) → HasCause e bytes outcome → HasDataWithin bytes outcome
 data_within e bytes (Took delivered) cause = taken-within e bytes delivered cause
-data_within e bytes (Dropped why) cause = tt
-data_within e bytes (Synced number) cause = tt
-data_within e bytes (WasReset code) cause = tt
-data_within e bytes (SentReset code detail) cause = tt
+data_within e bytes _ cause = tt

@@ -1,26 +1,22 @@
 -- An inbox without a drop that is not slow has nothing to say, and a frame goes out beside it as it is.
-use Rattle.std.proofs.Common.{◌≡◌, ℕ, zero, suc, Bool, false, List, [], ◌++◌, Option, Some, None, Result, Ok, Err, replicate, take, refl, ap, ◌∙◌, sym}
+use Rattle.std.proofs.Common.{◌≡◌, ℕ, Bool, false, List, [], ◌++◌, Option, Some, None, Result, Ok, Err, take, refl, ap, ◌∙◌, sym}
 use Rattle.ack_vectors.specs.Coding.{coded_bytes}
 use Rattle.dccp_packets.specs.Grammar.{Parts, decoded}
 use Rattle.dccp_packets.specs.Outgoing.{Outgoing}
 use Rattle.dccp_packets.specs.declared.reading.Malformed.{Malformed}
 use Rattle.dccp_sum.specs.declared.pseudo_header.Pseudo.{Pseudo}
-use Rattle.data_dropped.specs.Drops.{before_codes, drop_bytes, drop_coding, up_to_last_code}
+use Rattle.data_dropped.specs.Drops.{drop_bytes, drop_coding, up_to_last_code}
 use Rattle.dccp_endpoint.specs.Lengthening.{lengthened_if, says_more}
 use Rattle.data_dropped.specs.Frames.{acknowledged_by, buffered_ack, buffered_frame, buffered_packet, drops_said, said, slow_said}
 use Rattle.data_dropped.specs.Inbox.{InboxState, is_slow}
 use Rattle.data_dropped.specs.declared.drops.DropEntry.{DropEntry}
+use Rattle.data_dropped.proofs.LastCode.{none-count}
 use Rattle.data_dropped.proofs.Table.{table-none}
-
--- up to the last code if there is none
-none-last : (count : ℕ) → up_to_last_code (replicate count None) ≡ []
-none-last zero = refl
-none-last (suc count) = ap (before_codes None) (none-last count)
 
 no-bytes : (ack : ℕ) → drop_bytes [] ack ≡ []
 no-bytes ack =
     ap (λ (codes : List (Option ℕ)). take 253 (coded_bytes drop_coding (up_to_last_code codes))) (table-none ack)
-    ∙ ap (λ (codes : List (Option ℕ)). take 253 (coded_bytes drop_coding codes)) (none-last 2048)
+    ∙ ap (λ (codes : List (Option ℕ)). take 253 (coded_bytes drop_coding codes)) (none-count 2048)
 
 nothing-said : (held : InboxState) (ack : ℕ) → held.drops ≡ [] → is_slow held ≡ false → said held ack ≡ []
 nothing-said held ack none quick =

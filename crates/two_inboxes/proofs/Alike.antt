@@ -137,53 +137,21 @@ module _ (a : Incoming) (options : Listed) (place : ℕ × ℕ) where
 
   accepts-same : (g : Entrance) (x : EndState) → accepts_request other g x ≡ accepts_request a g x
   accepts-same entrance.Accept x = opens-same x (is_own_service x a.service)
-  accepts-same entrance.NoConnection x = refl
-  accepts-same entrance.Stray x = refl
-  accepts-same entrance.InRequest x = refl
-  accepts-same entrance.PacketError x = refl
-  accepts-same entrance.Check x = refl
+  accepts-same _ x = refl
 
   answers-same : (x : EndState) (kind : PacketType) (within : Bool) → answers other x kind within ≡ answers a x kind within
   answers-same x types.Request true = refl
   answers-same x types.Request false = refl
-  answers-same x types.Response true = refl
-  answers-same x types.Response false = refl
-  answers-same x types.Data true = refl
-  answers-same x types.Data false = refl
-  answers-same x types.Ack true = refl
-  answers-same x types.Ack false = refl
-  answers-same x types.DataAck true = refl
-  answers-same x types.DataAck false = refl
-  answers-same x types.CloseReq true = refl
-  answers-same x types.CloseReq false = refl
-  answers-same x types.Close true = refl
-  answers-same x types.Close false = refl
-  answers-same x types.Reset true = refl
-  answers-same x types.Reset false = refl
-  answers-same x types.Sync true = refl
-  answers-same x types.Sync false = refl
-  answers-same x types.SyncAck true = refl
-  answers-same x types.SyncAck false = refl
+  answers-same x _ true = refl
+  answers-same x _ false = refl
 
   takes-same : (g : Entrance) (x : EndState) → takes_answer other g x ≡ takes_answer a g x
   takes-same entrance.InRequest x = answers-same x a.kind (acknowledges_in_window x a)
-  takes-same entrance.Accept x = refl
-  takes-same entrance.NoConnection x = refl
-  takes-same entrance.Stray x = refl
-  takes-same entrance.PacketError x = refl
-  takes-same entrance.Check x = refl
+  takes-same _ x = refl
 
   raises-same : (x : EndState) (kind : PacketType) → raises other x kind ≡ raises a x kind
   raises-same x types.Request = refl
-  raises-same x types.Response = refl
-  raises-same x types.Data = refl
-  raises-same x types.Ack = refl
-  raises-same x types.DataAck = refl
-  raises-same x types.CloseReq = refl
-  raises-same x types.Close = refl
-  raises-same x types.Reset = refl
-  raises-same x types.Sync = refl
-  raises-same x types.SyncAck = refl
+  raises-same x _ = refl
 
   verdict-same : (x : EndState) (v : Verdict) → by_verdict other x v ≡ by_verdict a x v
   verdict-same x verdicts.Valid = raises-same x a.kind
@@ -192,23 +160,11 @@ module _ (a : Incoming) (options : Listed) (place : ℕ × ℕ) where
 
   checks-same : (g : Entrance) (x : EndState) → checks_numbers other g x ≡ checks_numbers a g x
   checks-same entrance.Check x = verdict-same x (verdict x.marks a.kind a.number a.ack)
-  checks-same entrance.InRequest x = refl
-  checks-same entrance.Accept x = refl
-  checks-same entrance.NoConnection x = refl
-  checks-same entrance.Stray x = refl
-  checks-same entrance.PacketError x = refl
+  checks-same _ x = refl
 
   ends-same : (kind : PacketType) (x : EndState) → ends_by_reset other kind x ≡ ends_by_reset a kind x
   ends-same types.Request x = refl
-  ends-same types.Response x = refl
-  ends-same types.Data x = refl
-  ends-same types.Ack x = refl
-  ends-same types.DataAck x = refl
-  ends-same types.CloseReq x = refl
-  ends-same types.Close x = refl
-  ends-same types.Reset x = refl
-  ends-same types.Sync x = refl
-  ends-same types.SyncAck x = refl
+  ends-same _ x = refl
 
   serves-same : (x : EndState) (others : Bool) → serves other x others ≡ serves a x others
   serves-same x true = refl
@@ -225,11 +181,7 @@ module _ (a : Incoming) (options : Listed) (place : ℕ × ℕ) where
   -- a packet that leaves before its options are read
   leaves-same : (x : EndState) (exit : Exit) → leaves x other exit ≡ leaves x a exit
   leaves-same x (exits.Drop why) = refl
-  leaves-same x (exits.Sync number) = refl
-  leaves-same x (exits.ResetWithoutConnection code) = refl
-  leaves-same x exits.PacketError = refl
-  leaves-same x (exits.Shut fault) = refl
-  leaves-same x (exits.TimeWait code) = refl
+  leaves-same x _ = refl
 
   same-step : (one two : Step Outcome) → one ≡ two → IsSameStep one two
   same-step one two is =
@@ -249,12 +201,8 @@ module _ (a : Incoming) (options : Listed) (place : ℕ × ℕ) where
   replies-same : (e : EndState) (confirms : List DueConfirm) (one two : Outcome) (r : Reply) → without_place one ≡ without_place two
       → IsSameStep (replies e other confirms one r) (replies e a confirms two r)
   replies-same e confirms one two reply.Nothing same = acks-same e confirms one two same (needs_ack e.phase confirms e.rows e.unacked)
-  replies-same e confirms one two reply.Response same = record { same_end = refl; same_frame = refl; same_calls = refl; same_outcome = same }
-  replies-same e confirms one two reply.Ack same = record { same_end = refl; same_frame = refl; same_calls = refl; same_outcome = same }
-  replies-same e confirms one two reply.Close same = record { same_end = refl; same_frame = refl; same_calls = refl; same_outcome = same }
   replies-same e confirms one two reply.ResetClosed same = record { same_end = refl; same_frame = refl; same_calls = refl; same_outcome = refl }
-  replies-same e confirms one two reply.SyncAck same = record { same_end = refl; same_frame = refl; same_calls = refl; same_outcome = same }
-  replies-same e confirms one two reply.Torn same = record { same_end = refl; same_frame = refl; same_calls = refl; same_outcome = same }
+  replies-same e confirms one two _ same = record { same_end = refl; same_frame = refl; same_calls = refl; same_outcome = same }
 
   delivered-same : (one two : ℕ × ℕ) (new : Bool) → without_place (Took (delivered_if new one)) ≡ without_place (Took (delivered_if new two))
   delivered-same one two true = refl
