@@ -79,22 +79,8 @@ every_stands feature place = (index_of feature place, index_below feature place,
     stands : (feature : Feature) (place : Place) → get_or every_place (index_of feature place) (feature, place) ≡ (feature, place)
     stands f.Ccid located.Here = refl
     stands f.Ccid located.There = refl
-    stands f.ShortSeqnos located.Here = refl
-    stands f.ShortSeqnos located.There = refl
-    stands f.SequenceWindow located.Here = refl
-    stands f.SequenceWindow located.There = refl
-    stands f.EcnIncapable located.Here = refl
-    stands f.EcnIncapable located.There = refl
-    stands f.AckRatio located.Here = refl
-    stands f.AckRatio located.There = refl
-    stands f.SendAckVector located.Here = refl
-    stands f.SendAckVector located.There = refl
-    stands f.SendNdpCount located.Here = refl
-    stands f.SendNdpCount located.There = refl
-    stands f.MinCsCov located.Here = refl
-    stands f.MinCsCov located.There = refl
-    stands f.CheckDataChecksum located.Here = refl
-    stands f.CheckDataChecksum located.There = refl
+    stands _ located.Here = refl
+    stands _ located.There = refl
 
 -- what passes the test is kept
 kept_in : {X : Type 0} (test : X → Bool) (list : List X) (k : ℕ) (x : X) → k < length list → get_or list k x ≡ x → test x ≡ true

@@ -1,5 +1,6 @@
 -- What is listed for the rows.
 use Rattle.std.proofs.Common.{◌≡◌, ℕ, ◌+◌, ◌<◌, ◌==◌, Bool, true, false, ◌||◌, eq-eqb, suc, take, drop, ◌++◌, append_assoc, List, [], ◌∷◌, length, map, get_or, set, refl, sym, ap, ◌∙◌, subst, arith}
+use Rattle.std.proofs.lemmas.Bool.{or_left}
 use Rattle.std.proofs.lemmas.List.{length-map, get_or-map, map-append, take_more, length-take-le}
 use Rattle.std.proofs.Math.Seq.{drop-cons, set-append_seam}
 use Rattle.feature_lists.specs.Wishes.{is_ours}
@@ -16,24 +17,10 @@ use Rattle.feature_machine.specs.Sound.{IsRowOf, is_active}
 use Rattle.feature_machine.proofs.Places.{index_below}
 
 usual_is_listed : (feature : Feature) (place : Place) → IsListedFor feature place (listed_at usual_lists feature place)
-usual_is_listed f.Ccid located.Here = record { feature_is = refl; place_is = refl; wish = refl; offer = λ ours. refl }
-usual_is_listed f.Ccid located.There = record { feature_is = refl; place_is = refl; wish = refl; offer = λ ours. refl }
-usual_is_listed f.ShortSeqnos located.Here = record { feature_is = refl; place_is = refl; wish = refl; offer = λ ours. refl }
-usual_is_listed f.ShortSeqnos located.There = record { feature_is = refl; place_is = refl; wish = refl; offer = λ ours. refl }
-usual_is_listed f.SequenceWindow located.Here = record { feature_is = refl; place_is = refl; wish = refl; offer = λ ours. refl }
-usual_is_listed f.SequenceWindow located.There = record { feature_is = refl; place_is = refl; wish = refl; offer = λ ours. refl }
 usual_is_listed f.EcnIncapable located.Here = record { feature_is = refl; place_is = refl; wish = refl; offer = λ ours. cc }
-usual_is_listed f.EcnIncapable located.There = record { feature_is = refl; place_is = refl; wish = refl; offer = λ ours. refl }
-usual_is_listed f.AckRatio located.Here = record { feature_is = refl; place_is = refl; wish = refl; offer = λ ours. refl }
-usual_is_listed f.AckRatio located.There = record { feature_is = refl; place_is = refl; wish = refl; offer = λ ours. refl }
-usual_is_listed f.SendAckVector located.Here = record { feature_is = refl; place_is = refl; wish = refl; offer = λ ours. refl }
 usual_is_listed f.SendAckVector located.There = record { feature_is = refl; place_is = refl; wish = refl; offer = λ ours. cc }
-usual_is_listed f.SendNdpCount located.Here = record { feature_is = refl; place_is = refl; wish = refl; offer = λ ours. refl }
-usual_is_listed f.SendNdpCount located.There = record { feature_is = refl; place_is = refl; wish = refl; offer = λ ours. refl }
-usual_is_listed f.MinCsCov located.Here = record { feature_is = refl; place_is = refl; wish = refl; offer = λ ours. refl }
-usual_is_listed f.MinCsCov located.There = record { feature_is = refl; place_is = refl; wish = refl; offer = λ ours. refl }
-usual_is_listed f.CheckDataChecksum located.Here = record { feature_is = refl; place_is = refl; wish = refl; offer = λ ours. refl }
-usual_is_listed f.CheckDataChecksum located.There = record { feature_is = refl; place_is = refl; wish = refl; offer = λ ours. refl }
+usual_is_listed _ located.Here = record { feature_is = refl; place_is = refl; wish = refl; offer = λ ours. refl }
+usual_is_listed _ located.There = record { feature_is = refl; place_is = refl; wish = refl; offer = λ ours. refl }
 
 pub usual_are_lists : IsLists usual_lists
 usual_are_lists = record { size = refl; each = usual_is_listed }
@@ -52,10 +39,6 @@ without_offers_are_lists lists its =
           (unoffered_is_listed feature place (listed_at lists feature place) (its.each feature place));
     }
 
-or_true : (a b : Bool) → a ≡ true → (a || b) ≡ true
-or_true true b h = refl
-or_true false b h = cc
-
 first_is_row : (r : Role2) (feature : Feature) (place : Place) (listed : RowSetup) → IsListedFor feature place listed → IsRowOf feature place (first_row r listed)
 first_is_row r feature place listed its =
     let initial : (initial_of listed.feature == initial_of listed.feature) ≡ true = eq-eqb (initial_of listed.feature) (initial_of listed.feature) refl in
@@ -63,7 +46,7 @@ first_is_row r feature place listed its =
       feature_is = its.feature_is;
       place_is = its.place_is;
       sound = record {
-        value = or_true (initial_of listed.feature == initial_of listed.feature) (is_permitted listed.feature listed.place (initial_of listed.feature)) initial;
+        value = or_left (initial_of listed.feature == initial_of listed.feature) (is_permitted listed.feature listed.place (initial_of listed.feature)) initial;
         active =
             subst (λ x. is_active x listed.place listed.wish ≡ true) (sym its.feature_is)
             (subst (λ y. is_active feature y listed.wish ≡ true) (sym its.place_is) its.wish);

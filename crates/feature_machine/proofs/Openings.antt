@@ -70,8 +70,6 @@ change_line : (row : Row) (s : Stand) (proposed : Proposal) (mandatory : Bool)
 change_line row s p.Invalid false = refl
 change_line row s p.Invalid true = refl
 change_line row stand.Unstable (p.Shared value) mandatory = refl
-change_line row stand.Unstable p.Unshared mandatory = refl
-change_line row stand.Unstable (p.Told value) mandatory = refl
 change_line row stand.Stable (p.Shared value) mandatory = refl
 change_line row stand.Changing (p.Shared value) mandatory = refl
 change_line row stand.Stable p.Unshared false = refl
@@ -80,6 +78,7 @@ change_line row stand.Changing p.Unshared false = refl
 change_line row stand.Changing p.Unshared true = refl
 change_line row stand.Stable (p.Told value) mandatory = refl
 change_line row stand.Changing (p.Told value) mandatory = refl
+change_line row stand.Unstable _ mandatory = refl
 
 pub change_keeps : (row : Row) (body : List ℕ) (mandatory : Bool)
     → (row_step row (Change body mandatory)).row ≡ holding row (row_step row (Change body mandatory)).row.value
@@ -126,8 +125,7 @@ confirm_answer : (row : Row) (body : List ℕ) (ack : Option ℕ) (s : Stand) �
     → (row.stand ≡ stand.Changing) × (answers_opening row.opened ack ≡ true)
 confirm_answer row body ack stand.Changing is true timely settles = (is, timely)
 confirm_answer row body ack s is false late settles = absurd ((late_stays row s).1 settles)
-confirm_answer row body ack stand.Stable is true timely settles = absurd (cc settles)
-confirm_answer row body ack stand.Unstable is true timely settles = absurd (cc settles)
+confirm_answer row body ack _ is true timely settles = absurd (cc settles)
 
 pub settling_stand : (row : Row) (event : RowEvent) → row.stand ≢ stand.Stable → (row_step row event).row.stand ≡ stand.Stable
     → (row.stand ≡ stand.Changing) × IsItsConfirm row event

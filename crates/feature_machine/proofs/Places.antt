@@ -13,14 +13,7 @@ use Rattle.feature_machine.specs.Sound.{IsRowOf}
 
 number_below : (feature : Feature) → feature_number feature ≤ 9
 number_below f.Ccid = omega arith
-number_below f.ShortSeqnos = omega arith
-number_below f.SequenceWindow = omega arith
-number_below f.EcnIncapable = omega arith
-number_below f.AckRatio = omega arith
-number_below f.SendAckVector = omega arith
-number_below f.SendNdpCount = omega arith
-number_below f.MinCsCov = omega arith
-number_below f.CheckDataChecksum = omega arith
+number_below _ = omega arith
 
 pub index_below : (feature : Feature) (place : Place) → index_of feature place < 18
 index_below feature located.Here = let n : feature_number feature ≤ 9 = number_below feature in omega arith
@@ -29,25 +22,11 @@ index_below feature located.There = let n : feature_number feature ≤ 9 = numbe
 -- a number finds its feature
 pub numbered : (feature : Feature) → feature_numbered (feature_number feature) ≡ Some feature
 numbered f.Ccid = refl
-numbered f.ShortSeqnos = refl
-numbered f.SequenceWindow = refl
-numbered f.EcnIncapable = refl
-numbered f.AckRatio = refl
-numbered f.SendAckVector = refl
-numbered f.SendNdpCount = refl
-numbered f.MinCsCov = refl
-numbered f.CheckDataChecksum = refl
+numbered _ = refl
 
 number_above : (feature : Feature) → 1 ≤ feature_number feature
 number_above f.Ccid = omega arith
-number_above f.ShortSeqnos = omega arith
-number_above f.SequenceWindow = omega arith
-number_above f.EcnIncapable = omega arith
-number_above f.AckRatio = omega arith
-number_above f.SendAckVector = omega arith
-number_above f.SendNdpCount = omega arith
-number_above f.MinCsCov = omega arith
-number_above f.CheckDataChecksum = omega arith
+number_above _ = omega arith
 
 pub same_feature : (a b : Feature) → feature_number a ≡ feature_number b → a ≡ b
 same_feature a b e = let found : feature_numbered (feature_number a) ≡ feature_numbered (feature_number b) = ap feature_numbered e in

@@ -1,7 +1,7 @@
 -- Rows that say nothing by themselves.
 use Rattle.std.proofs.Common.{◌≡◌, Bool, true, false, List, [], ◌∷◌, length, refl, sym, ap, ◌∙◌, arith}
 use Rattle.std.specs.Prelude.{not}
-use Rattle.std.proofs.lemmas.Bool.{and_parts}
+use Rattle.std.proofs.lemmas.Bool.{and_parts, not-true}
 use Rattle.std.proofs.lemmas.List.Sums.{AllPass-from_list_all}
 use Rattle.feature_lists.specs.declared.features.Feature.{Feature}
 use Rattle.feature_lists.specs.declared.features.Place.{Place}
@@ -28,10 +28,6 @@ made_by Nothing made = refl
 made_by Plain made = absurd cc
 made_by Mandatory made = absurd cc
 
-not_so : (b : Bool) → not b ≡ true → b ≡ false
-not_so true is = absurd cc
-not_so false is = refl
-
 pub nothing_comes_up : (rows : List Row) (feature : Feature) (place : Place) (confirmed : Bool) → length rows ≡ 18
     → are_quiet rows ≡ true → (stepped rows feature place (Offers confirmed)).rows ≡ rows
 nothing_comes_up rows feature place confirmed size quiet =
@@ -46,4 +42,4 @@ pub nothing_due : (rows : List Row) → are_quiet rows ≡ true → due_keys row
 nothing_due [] quiet = refl
 nothing_due (row ∷ rest) quiet =
     let both = and_parts (is_quiet row) (are_quiet rest) quiet in
-    rw (not_so (is_due row) (and_parts (is_offerless row.offer) (not (is_due row)) both.0).1) (nothing_due rest both.1)
+    rw (not-true (is_due row) (and_parts (is_offerless row.offer) (not (is_due row)) both.0).1) (nothing_due rest both.1)

@@ -51,11 +51,8 @@ line_refuses row stand.Changing c.Empty other =
     if_both (λ step. settling_of step.answer ≢ settling.Settled → IsRefusal step.answer) (described row.feature).is_required (says row (Fatal 5))
     (settled row row.value)
     (λ required refused. tt) (λ not_required refused. absurd (refused refl)) other
-line_refuses row stand.Changing (c.Shared value) other = absurd (other refl)
-line_refuses row stand.Changing c.Held other = absurd (other refl)
-line_refuses row stand.Changing (c.Alone value) other = absurd (other refl)
-line_refuses row stand.Changing (c.Told value) other = absurd (other refl)
 line_refuses row stand.Changing c.Wrong other = tt
+line_refuses row stand.Changing _ other = absurd (other refl)
 
 pub confirm_refuses : (row : Row) (body : List ℕ) (ack : Option ℕ) → settling_of (row_step row (Confirm body ack)).answer ≢ settling.Settled
     → IsRefusal (row_step row (Confirm body ack)).answer
