@@ -38,14 +38,7 @@ none-of-seed : (setting : Setting) (figure : Setting → Option ℕ) → owns ta
     → seed_run_from (figure Seed) (figure Events) ≡ None
 none-of-seed Seed figure is none = rw none refl
 none-of-seed Events figure is none = rw none (no-events (figure Seed))
-none-of-seed First figure is none = absurd (false≢true is)
-none-of-seed Seeds figure is none = absurd (false≢true is)
-none-of-seed Workers figure is none = absurd (false≢true is)
-none-of-seed Side figure is none = absurd (false≢true is)
-none-of-seed Plain figure is none = absurd (false≢true is)
-none-of-seed Buffer figure is none = absurd (false≢true is)
-none-of-seed Most figure is none = absurd (false≢true is)
-none-of-seed Flow figure is none = absurd (false≢true is)
+none-of-seed _ figure is none = absurd (false≢true is)
 
 pub seed-once : (setting : Setting) (text : Text) (all : Option (List Assignment)) (pairs : Pairs) → owns table.Seed setting ≡ true → has setting pairs ≡ true
     → seed_means (onto pairs (preceded (assigned setting text) all)) ≡ None
@@ -67,14 +60,7 @@ seed-owned : (setting : Setting) → owns table.Seed setting ≡ true → (pairs
     → number_at pairs setting ≡ None
 seed-owned Seed is pairs text at bad = ap (option_and_then (number_for Seed)) at ∙ unvalued Seed text refl bad
 seed-owned Events is pairs text at bad = ap (option_and_then (number_for Events)) at ∙ unvalued Events text refl bad
-seed-owned First is pairs text at bad = absurd (false≢true is)
-seed-owned Seeds is pairs text at bad = absurd (false≢true is)
-seed-owned Workers is pairs text at bad = absurd (false≢true is)
-seed-owned Side is pairs text at bad = absurd (false≢true is)
-seed-owned Plain is pairs text at bad = absurd (false≢true is)
-seed-owned Buffer is pairs text at bad = absurd (false≢true is)
-seed-owned Most is pairs text at bad = absurd (false≢true is)
-seed-owned Flow is pairs text at bad = absurd (false≢true is)
+seed-owned _ is pairs text at bad = absurd (false≢true is)
 
 seed-gave : (pairs : Pairs) → Distinct pairs → Owned table.Seed pairs → seed-at pairs ≡ seed_means (gave pairs)
 unfolding seed-at
@@ -131,13 +117,7 @@ none-of-range : (setting : Setting) (figure : Setting → Option ℕ) → owns t
 none-of-range First figure is none = rw none refl
 none-of-range Seeds figure is none = rw none (range-2 (figure First) (figure Events))
 none-of-range Events figure is none = rw none (range-3 (figure First) (figure Seeds))
-none-of-range Seed figure is none = absurd (false≢true is)
-none-of-range Workers figure is none = absurd (false≢true is)
-none-of-range Side figure is none = absurd (false≢true is)
-none-of-range Plain figure is none = absurd (false≢true is)
-none-of-range Buffer figure is none = absurd (false≢true is)
-none-of-range Most figure is none = absurd (false≢true is)
-none-of-range Flow figure is none = absurd (false≢true is)
+none-of-range _ figure is none = absurd (false≢true is)
 
 pub range-once : (setting : Setting) (text : Text) (all : Option (List Assignment)) (pairs : Pairs) → owns table.Seeds setting ≡ true → has setting pairs ≡ true
     → range_means (onto pairs (preceded (assigned setting text) all)) ≡ None
@@ -161,13 +141,7 @@ range-owned : (setting : Setting) → owns table.Seeds setting ≡ true → (pai
 range-owned First is pairs text at bad = ap (option_and_then (number_for First)) at ∙ unvalued First text refl bad
 range-owned Seeds is pairs text at bad = ap (option_and_then (number_for Seeds)) at ∙ unvalued Seeds text refl bad
 range-owned Events is pairs text at bad = ap (option_and_then (number_for Events)) at ∙ unvalued Events text refl bad
-range-owned Seed is pairs text at bad = absurd (false≢true is)
-range-owned Workers is pairs text at bad = absurd (false≢true is)
-range-owned Side is pairs text at bad = absurd (false≢true is)
-range-owned Plain is pairs text at bad = absurd (false≢true is)
-range-owned Buffer is pairs text at bad = absurd (false≢true is)
-range-owned Most is pairs text at bad = absurd (false≢true is)
-range-owned Flow is pairs text at bad = absurd (false≢true is)
+range-owned _ is pairs text at bad = absurd (false≢true is)
 
 range-gave : (pairs : Pairs) → Distinct pairs → Owned table.Seeds pairs → range-at pairs ≡ range_means (gave pairs)
 unfolding range-at
@@ -225,14 +199,7 @@ pub flow-once : (setting : Setting) (text : Text) (all : Option (List Assignment
 flow-once Flow text all pairs is twice = rw (twice-none Flow text all pairs twice) refl
 flow-once Side text all pairs is twice =
     rw (twice-none Side text all pairs twice) (no-flow-side (number_once Flow (onto pairs (preceded (assigned Side text) all))))
-flow-once First text all pairs is twice = absurd (false≢true is)
-flow-once Seeds text all pairs is twice = absurd (false≢true is)
-flow-once Events text all pairs is twice = absurd (false≢true is)
-flow-once Workers text all pairs is twice = absurd (false≢true is)
-flow-once Plain text all pairs is twice = absurd (false≢true is)
-flow-once Buffer text all pairs is twice = absurd (false≢true is)
-flow-once Most text all pairs is twice = absurd (false≢true is)
-flow-once Seed text all pairs is twice = absurd (false≢true is)
+flow-once _ text all pairs is twice = absurd (false≢true is)
 
 module _ {X : Type 0} (judge : List Row → Option X) where
   flow-closes : (rs : List Row) (a b : Bool) → is_given (codes "flow") rs ≡ a → is_given (codes "side") rs ≡ b
@@ -276,14 +243,7 @@ flow-bad pairs Flow text own at bad =
 flow-bad pairs Side text own at bad =
     ap (λ (side : Option EndSide). flow_side_from (number_at pairs Flow) side) (ap (option_and_then side_in) at ∙ no-side-in (side_in text) bad)
     ∙ no-flow-side (number_at pairs Flow)
-flow-bad pairs First text own at bad = absurd (false≢true own)
-flow-bad pairs Seeds text own at bad = absurd (false≢true own)
-flow-bad pairs Events text own at bad = absurd (false≢true own)
-flow-bad pairs Workers text own at bad = absurd (false≢true own)
-flow-bad pairs Plain text own at bad = absurd (false≢true own)
-flow-bad pairs Buffer text own at bad = absurd (false≢true own)
-flow-bad pairs Most text own at bad = absurd (false≢true own)
-flow-bad pairs Seed text own at bad = absurd (false≢true own)
+flow-bad pairs _ text own at bad = absurd (false≢true own)
 
 flow-gave : (pairs : Pairs) → Distinct pairs → Owned table.Frames pairs → flow-at pairs ≡ flow_means (gave pairs)
 unfolding flow-at

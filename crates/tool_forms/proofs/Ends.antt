@@ -34,10 +34,8 @@ use Rattle.tool_forms.proofs.Reading.{Owned, owns, shape}
 default-passes : (w : Way) (name : Text) (rs : List Row) (b : Bool) → has_row name rs ≡ b → default_fault rs (argument_by w name) ≡ []
 default-passes way.Needed name rs true is = rw is refl
 default-passes way.Needed name rs false is = rw is refl
-default-passes way.Chosen name rs true is = rw is refl
-default-passes way.Chosen name rs false is = rw is refl
-default-passes way.Mark name rs true is = rw is refl
-default-passes way.Mark name rs false is = rw is refl
+default-passes _ name rs true is = rw is refl
+default-passes _ name rs false is = rw is refl
 
 defaults-pass : (settings : List Setting) (rs : List Row) → defaults_fault rs (map argument settings) ≡ []
 unfolding defaults_fault
@@ -111,12 +109,7 @@ one-none First figure is none = rw none refl
 one-none Seeds figure is none = rw none (chain-2 (figure First) (figure Events) (figure Workers))
 one-none Events figure is none = rw none (chain-3 (figure First) (figure Seeds) (figure Workers))
 one-none Workers figure is none = rw none (chain-4 (figure First) (figure Seeds) (figure Events))
-one-none Side figure is none = absurd (false≢true is)
-one-none Plain figure is none = absurd (false≢true is)
-one-none Buffer figure is none = absurd (false≢true is)
-one-none Most figure is none = absurd (false≢true is)
-one-none Seed figure is none = absurd (false≢true is)
-one-none Flow figure is none = absurd (false≢true is)
+one-none _ figure is none = absurd (false≢true is)
 
 pub campaign-once : (setting : Setting) (text : Text) (all : Option (List Assignment)) (pairs : Pairs) → owns table.Campaign setting ≡ true
     → has setting pairs ≡ true
@@ -187,16 +180,9 @@ is_figure _ = true
 
 figure-value : (setting : Setting) (text : Text) → is_figure setting ≡ true
     → value_of setting text ≡ option_and_then (λ n. Some (value.Number n)) (number_for setting text)
-figure-value First text is = refl
-figure-value Seeds text is = refl
-figure-value Events text is = refl
-figure-value Workers text is = refl
 figure-value Side text is = absurd (false≢true is)
 figure-value Plain text is = absurd (false≢true is)
-figure-value Buffer text is = refl
-figure-value Most text is = refl
-figure-value Seed text is = refl
-figure-value Flow text is = refl
+figure-value _ text is = refl
 
 number-of : (n : Option ℕ) → number_among (Some (option_and_then (λ n. Some (value.Number n)) n)) ≡ n
 number-of None = refl
@@ -223,14 +209,7 @@ unvalued setting text is bad = unnumbered (number_for setting text) (sym (figure
 figures : (setting : Setting) → owns table.Campaign setting ≡ true → is_figure setting ≡ true
 figures Side is = absurd (false≢true is)
 figures Plain is = absurd (false≢true is)
-figures First is = refl
-figures Seeds is = refl
-figures Events is = refl
-figures Workers is = refl
-figures Buffer is = refl
-figures Most is = refl
-figures Seed is = refl
-figures Flow is = refl
+figures _ is = refl
 
 chain-at : (pairs : Pairs) → Option Campaign
 chain-at pairs = chain (number_at pairs First) (number_at pairs Seeds) (number_at pairs Events) (number_at pairs Workers)
@@ -364,13 +343,7 @@ replay-once Buffer text all pairs is twice =
     rw (twice-none Buffer text all pairs twice)
     (no-buffer (option_and_then (once Plain) (onto pairs (preceded (assigned Buffer text) all)))
     (side_given (option_and_then (once Side) (onto pairs (preceded (assigned Buffer text) all)))))
-replay-once First text all pairs is twice = absurd (false≢true is)
-replay-once Seeds text all pairs is twice = absurd (false≢true is)
-replay-once Events text all pairs is twice = absurd (false≢true is)
-replay-once Workers text all pairs is twice = absurd (false≢true is)
-replay-once Most text all pairs is twice = absurd (false≢true is)
-replay-once Seed text all pairs is twice = absurd (false≢true is)
-replay-once Flow text all pairs is twice = absurd (false≢true is)
+replay-once _ text all pairs is twice = absurd (false≢true is)
 
 -- the row of the mark where it is not given, and the rows with it
 unmarked : Row
@@ -567,13 +540,7 @@ replay-bad pairs Buffer text own at bad =
     (λ side. option_and_then (λ buffer. Some (replay_with side (has Plain pairs) buffer)) (option_and_then (λ n. Some (Some n)) n))
     (option_and_then side_in (text_at Side pairs))) (unvalued Buffer text refl bad)
     ∙ no-capacity (option_and_then side_in (text_at Side pairs)) (has Plain pairs)
-replay-bad pairs First text own at bad = absurd (false≢true own)
-replay-bad pairs Seeds text own at bad = absurd (false≢true own)
-replay-bad pairs Events text own at bad = absurd (false≢true own)
-replay-bad pairs Workers text own at bad = absurd (false≢true own)
-replay-bad pairs Most text own at bad = absurd (false≢true own)
-replay-bad pairs Seed text own at bad = absurd (false≢true own)
-replay-bad pairs Flow text own at bad = absurd (false≢true own)
+replay-bad pairs _ text own at bad = absurd (false≢true own)
 
 replay-gave : (pairs : Pairs) → Distinct pairs → Owned table.Replay pairs → replay_at pairs ≡ replay_means (gave pairs)
 replay-gave pairs distinct owned = go (gave pairs) refl

@@ -124,15 +124,7 @@ equal-by one other is = (bytes_eq-Decides one other).0 is
 
 set-long : (setting : Setting) (rest : List ℕ) → long_of (dashed_name setting ++ rest) ≡ None → ⊥
 set-long First rest none = cannot _ none
-set-long Seeds rest none = cannot _ none
-set-long Events rest none = cannot _ none
-set-long Workers rest none = cannot _ none
-set-long Side rest none = cannot _ none
-set-long Plain rest none = cannot _ none
-set-long Buffer rest none = cannot _ none
-set-long Most rest none = cannot _ none
-set-long Seed rest none = cannot _ none
-set-long Flow rest none = cannot _ none
+set-long _ rest none = cannot _ none
 
 -- a setting has the name by which it is found
 named-is : (settings : List Setting) (name : List ℕ) (setting : Setting) → named_among settings name ≡ Some setting → name ≡ dashed_name setting

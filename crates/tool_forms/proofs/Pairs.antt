@@ -87,15 +87,7 @@ every = First ∷ (Seeds ∷ (Events ∷ (Workers ∷ (Side ∷ (Plain ∷ (Buff
 named : (setting : Setting) → named_among every (dashed_name setting) ≡ Some setting
 unfolding every
 named First = refl
-named Seeds = refl
-named Events = refl
-named Workers = refl
-named Side = refl
-named Plain = refl
-named Buffer = refl
-named Most = refl
-named Seed = refl
-named Flow = refl
+named _ = refl
 
 pub some-is : {X : Type 0} (x y : X) → Some x ≡ Some y → x ≡ y
 some-is x y is = cc is
@@ -215,10 +207,8 @@ faults-by : (w : Way) (name text : Text) (rs : List Row) (b : Bool) → has_row 
     → use_fault false (argument_by w name) (values_by w text) rs ≡ again_fault b
 faults-by way.Needed name text rs true is = rw is refl
 faults-by way.Needed name text rs false is = rw is refl
-faults-by way.Chosen name text rs true is = rw is refl
-faults-by way.Chosen name text rs false is = rw is refl
-faults-by way.Mark name text rs true is = rw is refl
-faults-by way.Mark name text rs false is = rw is refl
+faults-by _ name text rs true is = rw is refl
+faults-by _ name text rs false is = rw is refl
 
 module _ {X : Type 0} (judge : List Row → Option X) (s : Shape) (again : s.args_override_self ≡ false) where
   abbrev pub found_with : Pairs → List Text → Option X

@@ -32,35 +32,19 @@ shape t = (built (with_settings bare_command (settings_of t))).top
 
 rules-are : (t : Table) → (shape t).rules ≡ map argument (settings_of t)
 rules-are table.Replay = refl
-rules-are table.Campaign = refl
-rules-are table.Listen = refl
-rules-are table.Seed = refl
-rules-are table.Seeds = refl
-rules-are table.Frames = refl
+rules-are _ = refl
 
 pub no-short : (t : Table) (x : ℕ) → arg_by_short (shape t).rules x ≡ None
 no-short table.Replay x = refl
-no-short table.Campaign x = refl
-no-short table.Listen x = refl
-no-short table.Seed x = refl
-no-short table.Seeds x = refl
-no-short table.Frames x = refl
+no-short _ x = refl
 
 pub no-index : (t : Table) → arg_by_index (shape t).rules 1 ≡ None
 no-index table.Replay = refl
-no-index table.Campaign = refl
-no-index table.Listen = refl
-no-index table.Seed = refl
-no-index table.Seeds = refl
-no-index table.Frames = refl
+no-index _ = refl
 
 no-again : (t : Table) → (shape t).args_override_self ≡ false
 no-again table.Replay = refl
-no-again table.Campaign = refl
-no-again table.Listen = refl
-no-again table.Seed = refl
-no-again table.Seeds = refl
-no-again table.Frames = refl
+no-again _ = refl
 
 -- ---- the arguments of settings, whichever
 
@@ -181,16 +165,8 @@ marks setting text is =
     ap (λ (found : Option Value). option_and_then (λ v. Some (record { setting = setting; value = v })) found) (value-marked (way_of setting) setting text is)
 
 valueless : (setting : Setting) (text : Text) → is_marking (way_of setting) ≡ true → value_given_to (Some setting) text ≡ None
-valueless First text is = cc is
-valueless Seeds text is = cc is
-valueless Events text is = cc is
-valueless Workers text is = cc is
-valueless Side text is = cc is
 valueless Plain text is = refl
-valueless Buffer text is = cc is
-valueless Most text is = cc is
-valueless Seed text is = cc is
-valueless Flow text is = cc is
+valueless _ text is = cc is
 
 module _ {X : Type 0} (judge : List Row → Option X) (t : Table) (means : Option (List Assignment) → Option X) (means-none : means None ≡ None)
     (means-once : (setting : Setting) (text : Text) (all : Option (List Assignment)) (pairs : Pairs) → owns t setting ≡ true → has setting pairs ≡ true

@@ -109,11 +109,7 @@ command-is t = refl
 
 simple : (t : Table) → is_simple_and_free (command t) ≡ true
 simple table.Replay = refl
-simple table.Campaign = refl
-simple table.Listen = refl
-simple table.Seed = refl
-simple table.Seeds = refl
-simple table.Frames = refl
+simple _ = refl
 
 pub command-simple : (t : Table) (app : App) → app ≡ command_of t → is_simple_and_free app ≡ true
 command-simple t app is = ap is_simple_and_free (is ∙ command-is t) ∙ simple t
