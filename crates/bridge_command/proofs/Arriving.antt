@@ -43,15 +43,8 @@ pub frame-whole : (left : WordsLeft) (frame : FrameLine) → replay_row.said lef
 frame-whole left frame is = (few-words (texts_of left.words) frame (replay-is.spelled left frame is), frame-covered left frame is)
 
 with-checksum-length : (sum : ℕ) (bytes : List ℕ) → 8 ≤ length bytes → length (with_checksum sum bytes) ≡ length bytes
-with-checksum-length sum [] long = absurd (omega arith)
-with-checksum-length sum (a ∷ []) long = absurd (omega arith)
-with-checksum-length sum (a ∷ b ∷ []) long = absurd (omega arith)
-with-checksum-length sum (a ∷ b ∷ c ∷ []) long = absurd (omega arith)
-with-checksum-length sum (a ∷ b ∷ c ∷ d ∷ []) long = absurd (omega arith)
-with-checksum-length sum (a ∷ b ∷ c ∷ d ∷ e ∷ []) long = absurd (omega arith)
-with-checksum-length sum (a ∷ b ∷ c ∷ d ∷ e ∷ f ∷ []) long = absurd (omega arith)
-with-checksum-length sum (a ∷ b ∷ c ∷ d ∷ e ∷ f ∷ g ∷ []) long = absurd (omega arith)
 with-checksum-length sum (a ∷ b ∷ c ∷ d ∷ e ∷ f ∷ g ∷ h ∷ rest) long = refl
+with-checksum-length sum _ long = absurd (omega arith)
 
 sealed-over-length : (pseudo : Pseudo) (bytes : List ℕ) (count : Option ℕ) → 8 ≤ length bytes → length (sealed_over pseudo bytes count) ≡ length bytes
 sealed-over-length pseudo bytes None long = refl

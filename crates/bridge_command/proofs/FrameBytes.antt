@@ -122,15 +122,7 @@ kind-bytes (SyncAck ack) are = long-ack-bytes ack
 
 code-small : (kind : PacketType) → code_of kind < 10
 code-small types.Request = omega arith
-code-small types.Response = omega arith
-code-small types.Data = omega arith
-code-small types.Ack = omega arith
-code-small types.DataAck = omega arith
-code-small types.CloseReq = omega arith
-code-small types.Close = omega arith
-code-small types.Reset = omega arith
-code-small types.Sync = omega arith
-code-small types.SyncAck = omega arith
+code-small _ = omega arith
 
 bit-small : (long : Bool) → (if long then 1 else 0) < 2
 bit-small true = omega arith
@@ -176,16 +168,8 @@ eight-bytes h options payload = omega arith
 
 -- a moved header keeps these fields
 pub moved-fields : (end : UsualEnd) (initial : ℕ) (kind : Kind) → HasByteFields kind → HasByteFields (moved_kind end initial kind)
-moved-fields end initial (Request service) are = tt
-moved-fields end initial (Response ack service) are = tt
-moved-fields end initial Data are = tt
-moved-fields end initial (Ack ack) are = tt
-moved-fields end initial (DataAck ack) are = tt
-moved-fields end initial (CloseReq ack) are = tt
-moved-fields end initial (Close ack) are = tt
 moved-fields end initial (Reset ack code detail) are = are
-moved-fields end initial (Sync ack) are = tt
-moved-fields end initial (SyncAck ack) are = tt
+moved-fields end initial _ are = tt
 
 -- Packets
 
@@ -203,16 +187,8 @@ DecodesToBytes (Ok packet) = IsOfBytes packet
 DecodesToBytes (Err why) = Unit {0}
 
 kind-fields : (kind : PacketType) (long : Bool) (bytes : List ℕ) → AreBytes bytes → HasByteFields (kind_of kind long bytes)
-kind-fields types.Request long bytes are = tt
-kind-fields types.Response long bytes are = tt
-kind-fields types.Data long bytes are = tt
-kind-fields types.Ack long bytes are = tt
-kind-fields types.DataAck long bytes are = tt
-kind-fields types.CloseReq long bytes are = tt
-kind-fields types.Close long bytes are = tt
 kind-fields types.Reset long bytes are = (each-byte bytes are 24, bytes-part (28 - 25) 25 bytes are)
-kind-fields types.Sync long bytes are = tt
-kind-fields types.SyncAck long bytes are = tt
+kind-fields _ long bytes are = tt
 
 pub high-nibble : (byte : ℕ) → byte < 256 → byte / 16 < 16
 high-nibble byte small = omega (arith, small)

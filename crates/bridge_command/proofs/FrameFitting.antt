@@ -137,11 +137,8 @@ line-fits line =
     (text-fits (says_nothing line) (words_read line_said line) (some-fits (line_said (words_of line)) (words-fit (words_of line))))
 
 fits-arrives : (said : TranscriptLine) → FitsTold said → CanArrive said
-fits-arrives told.Other fits = tt
-fits-arrives told.Opened fits = tt
-fits-arrives (told.Number number) fits = tt
-fits-arrives (told.Sent travel frame) fits = tt
 fits-arrives (told.Came peer frame) fits = fits
+fits-arrives _ fits = tt
 
 read-arrives : (read : Result (Option TranscriptLine) LineFault) → FitsLine read → IfOk read (λ said. IfSome said CanArrive)
 read-arrives (Ok (Some said)) fits = fits-arrives said fits
@@ -158,9 +155,6 @@ FitsVerdict (Refused fault) = ⊤
 
 told-fits : (clock : Clock) (read : Result (Option TranscriptLine) LineFault) → clock.seconds < 2 ^ 32 → FitsLine read → FitsVerdict (by_told clock read)
 told-fits clock (Err fault) time fits = tt
-told-fits clock (Ok None) time fits = (All-nil FitsFrame, time)
-told-fits clock (Ok (Some told.Other)) time fits = (All-nil FitsFrame, time)
-told-fits clock (Ok (Some told.Opened)) time fits = (All-nil FitsFrame, time)
 told-fits clock (Ok (Some (told.Number number))) time fits = (All-nil FitsFrame, fits)
 told-fits clock (Ok (Some (told.Sent travel frame))) time fits =
     (All-cons FitsFrame (timed clock travel frame) [] (record { time = time; size = fits }) (All-nil FitsFrame), time)
@@ -168,6 +162,7 @@ told-fits clock (Ok (Some (told.Came peer frame))) time fits = (
   All-cons FitsFrame (timed_arrival clock (travel_in clock peer) frame) [] (record { time = time; size = arriving-few (travels (travel_in clock peer)) frame fits })
       (All-nil FitsFrame),
   time,
+told-fits clock _ time fits = (All-nil FitsFrame, time)
 )
 
 judged-fits : (clock : Clock) (number : ℕ) (line : List ℕ) → clock.seconds < 2 ^ 32 → FitsVerdict (transcript_judged clock number line)
@@ -177,8 +172,7 @@ judged-fits clock number line time = told-fits clock (told_of_line line) time (l
 next-fits : (clock : Clock) (number : ℕ) (next : Next) → clock.seconds < 2 ^ 32 → FitsVerdict (by_next capture_job clock number next)
 next-fits clock number End time = (All-nil FitsFrame, time)
 next-fits clock number (Line line) time = judged-fits clock number (text_of line) time
-next-fits clock number (Long front) time = tt
-next-fits clock number Much time = tt
+next-fits clock number _ time = tt
 
 gone-fits : (clock : Clock) (number given : ℕ) (verdict : LineVerdict TimedFrame Clock) (rest : Clock → LinesResult TimedFrame Clock) → FitsVerdict verdict
     → ((next : Clock) → next.seconds < 2 ^ 32 → All FitsFrame (rest next).deeds) → All FitsFrame (gone_by clock number given verdict rest).deeds

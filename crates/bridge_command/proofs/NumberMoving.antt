@@ -15,17 +15,7 @@ use Rattle.bridge_command.specs.declared.frames.mapping.UsualEnd.{UsualEnd}
 -- the numbers have the forms that they had
 forms-kept : (long : Bool) (end : UsualEnd) (initial : ℕ) (k : Kind) → has_forms long (moved_kind end initial k) ≡ has_forms long k
 forms-kept long end initial (Request service) = refl
-forms-kept long end initial (Response ack service) = refl
-forms-kept long end initial Data = refl
-forms-kept long end initial (Ack (Long ack)) = refl
-forms-kept long end initial (Ack (Short ack)) = refl
-forms-kept long end initial (DataAck (Long ack)) = refl
-forms-kept long end initial (DataAck (Short ack)) = refl
-forms-kept long end initial (CloseReq ack) = refl
-forms-kept long end initial (Close ack) = refl
-forms-kept long end initial (Reset ack code detail) = refl
-forms-kept long end initial (Sync ack) = refl
-forms-kept long end initial (SyncAck ack) = refl
+forms-kept long end initial _ = refl
 
 -- a valid header stays valid
 pub moved_valid : (end : UsualEnd) (initial : ℕ) (h : Header) → is_valid (moved_header end initial h) ≡ is_valid h

@@ -33,7 +33,4 @@ verdict_is_text verdict = verdict-text verdict
 
 pub malformed_is_text : (fault : Malformed) → IsText (malformed_name fault)
 malformed_is_text malformed.Short = refl
-malformed_is_text malformed.ReservedType = refl
-malformed_is_text malformed.OffsetSmall = refl
-malformed_is_text malformed.OffsetLarge = refl
-malformed_is_text malformed.ShortNumbers = refl
+malformed_is_text _ = refl

@@ -151,15 +151,7 @@ to-text (V6 from to) are = v6-text to are.1
 
 pub type-text : (kind : PacketType) → IsText (type_name kind)
 type-text types.Request = refl
-type-text types.Response = refl
-type-text types.Data = refl
-type-text types.Ack = refl
-type-text types.DataAck = refl
-type-text types.CloseReq = refl
-type-text types.Close = refl
-type-text types.Reset = refl
-type-text types.Sync = refl
-type-text types.SyncAck = refl
+type-text _ = refl
 
 number-text : (n : Number) → IsText (number_text n)
 number-text (Long n) = decimal-text n

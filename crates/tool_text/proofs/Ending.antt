@@ -82,10 +82,7 @@ answers-early text faulty result left before after off begun = record {
 
 on-status-of : (end : JobEnd) (Holds : JobEnd → Type 0) → Holds end → OnJobEnd (status_of end) Holds
 on-status-of ended.Done Holds holds = holds
-on-status-of ended.Input Holds holds = holds
-on-status-of ended.Read Holds holds = holds
-on-status-of ended.Write Holds holds = holds
-on-status-of ended.Memory Holds holds = holds
+on-status-of _ Holds holds = holds
 
 -- what holds of how a job ended holds of its program's status
 pub on-job-end : (end : JobEnd) (status : Status) (Holds : JobEnd → Type 0) → status ≡ status_of end → Holds end → OnJobEnd status Holds

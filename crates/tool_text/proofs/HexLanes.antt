@@ -23,23 +23,8 @@ below a b = cond (ltb a b) 255 0
 
 -- what is worked out for a value is its digit
 worked-out : (value : ℕ) → value < 16 → plus (plus value 48) (cond (top 7 (below 9 value)) 39 0) ≡ digit_at value
-worked-out zero small = refl
-worked-out (suc zero) small = refl
-worked-out (suc (suc zero)) small = refl
-worked-out (suc (suc (suc zero))) small = refl
-worked-out (suc (suc (suc (suc zero)))) small = refl
-worked-out (suc (suc (suc (suc (suc zero))))) small = refl
-worked-out (suc (suc (suc (suc (suc (suc zero)))))) small = refl
-worked-out (suc (suc (suc (suc (suc (suc (suc zero))))))) small = refl
-worked-out (suc (suc (suc (suc (suc (suc (suc (suc zero)))))))) small = refl
-worked-out (suc (suc (suc (suc (suc (suc (suc (suc (suc zero))))))))) small = refl
-worked-out (suc (suc (suc (suc (suc (suc (suc (suc (suc (suc zero)))))))))) small = refl
-worked-out (suc (suc (suc (suc (suc (suc (suc (suc (suc (suc (suc zero))))))))))) small = refl
-worked-out (suc (suc (suc (suc (suc (suc (suc (suc (suc (suc (suc (suc zero)))))))))))) small = refl
-worked-out (suc (suc (suc (suc (suc (suc (suc (suc (suc (suc (suc (suc (suc zero))))))))))))) small = refl
-worked-out (suc (suc (suc (suc (suc (suc (suc (suc (suc (suc (suc (suc (suc (suc zero)))))))))))))) small = refl
-worked-out (suc (suc (suc (suc (suc (suc (suc (suc (suc (suc (suc (suc (suc (suc (suc zero))))))))))))))) small = refl
 worked-out (suc (suc (suc (suc (suc (suc (suc (suc (suc (suc (suc (suc (suc (suc (suc (suc value)))))))))))))))) small = absurd (omega arith)
+worked-out _ small = refl
 
 pub lanes-digits : (values : List ℕ) (count : ℕ) → length values ≡ count → Each1 (λ value. value < 16) values
     → zip2 plus (zip2 plus values (replicate count 48)) (sel_l (map (top 7) (zip2 below (replicate count 9) values)) (replicate count 39) (replicate count 0))

@@ -12,22 +12,12 @@ use Rattle.dccp_command.proofs.top.dccp.Goals as goal
 
 reads : (f : Form) (OfCampaign : Campaign → Type 0) (OfReader : Type 0) → reads_input f ≡ true → OnForm f OfCampaign OfReader → OfReader
 reads (form.Campaign campaign) OfCampaign OfReader is does = absurd (false≢true is)
-reads form.Run OfCampaign OfReader is does = does
-reads (form.Replay side plain) OfCampaign OfReader is does = does
-reads (form.Buffered side plain capacity) OfCampaign OfReader is does = does
-reads form.Show OfCampaign OfReader is does = does
-reads (form.Listen most) OfCampaign OfReader is does = does
-reads form.Ecn OfCampaign OfReader is does = does
+reads _ OfCampaign OfReader is does = does
 
 unread : (f : Form) (Unread : Type 0) (Counted : Campaign → Type 0) (OfReader : Type 0) → reads_input f ≡ false
     → OnForm f (λ campaign. Unread × Counted campaign) OfReader → Unread
 unread (form.Campaign campaign) Unread Counted OfReader is does = does.0
-unread form.Run Unread Counted OfReader is does = absurd (false≢true (sym is))
-unread (form.Replay side plain) Unread Counted OfReader is does = absurd (false≢true (sym is))
-unread (form.Buffered side plain capacity) Unread Counted OfReader is does = absurd (false≢true (sym is))
-unread form.Show Unread Counted OfReader is does = absurd (false≢true (sym is))
-unread (form.Listen most) Unread Counted OfReader is does = absurd (false≢true (sym is))
-unread form.Ecn Unread Counted OfReader is does = absurd (false≢true (sym is))
+unread _ Unread Counted OfReader is does = absurd (false≢true (sym is))
 
 counts : (f : Form) (campaign : Campaign) (OfCampaign : Campaign → Type 0) (OfReader : Type 0) → f ≡ form.Campaign campaign → OnForm f OfCampaign OfReader
     → OfCampaign campaign
