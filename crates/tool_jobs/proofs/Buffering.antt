@@ -6,9 +6,5 @@ use Rattle.data_dropped.specs.Buffering.{HasDataWithin}
 use Rattle.schedule_text.specs.Results.{HasItsData}
 
 pub data-told : (bytes : List ℕ) (outcome : Outcome) → HasDataWithin bytes outcome → HasItsData bytes outcome
-data-told bytes (Took None) within = tt
 data-told bytes (Took (Some place)) within = within
-data-told bytes (Dropped why) within = tt
-data-told bytes (Synced number) within = tt
-data-told bytes (WasReset code) within = tt
-data-told bytes (SentReset code detail) within = tt
+data-told bytes _ within = tt

@@ -11,19 +11,11 @@ use Rattle.tool_jobs.specs.Forms.{ecn_form_kind, ecn_form_name, ecn_forms, ecn_r
 
 form-found : (which : EcnForm) → named_in ecn_form_name ecn_forms (ecn_form_name which) ≡ Some which
 form-found form.Send = refl
-form-found form.Deliver = refl
-form-found form.Mark = refl
-form-found form.Report = refl
-form-found form.Check = refl
-form-found form.Forge = refl
+form-found _ = refl
 
 form-words : (which : EcnForm) → is_whole_word (ecn_form_name which) ≡ true
 form-words form.Send = refl
-form-words form.Deliver = refl
-form-words form.Mark = refl
-form-words form.Report = refl
-form-words form.Check = refl
-form-words form.Forge = refl
+form-words _ = refl
 
 form-is : IsExactKind ecn_form_kind
 form-is = names-is ecn_form_name ecn_forms (record { found = form-found; words = form-words })

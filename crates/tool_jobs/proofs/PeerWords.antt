@@ -116,11 +116,6 @@ record AreNumbers (parts : List (List ℕ)) (address : List ℕ) : Type 0 where
   pub is : a ∷ b ∷ c ∷ d ∷ [] ≡ address
 
 address-spelled : (parts : List (List ℕ)) (address : List ℕ) → address_of_parts parts ≡ Some address → AreNumbers parts address
-address-spelled [] address is = cc is
-address-spelled (a ∷ []) address is = cc is
-address-spelled (a ∷ (b ∷ [])) address is = cc is
-address-spelled (a ∷ (b ∷ (c ∷ []))) address is = cc is
-address-spelled (a ∷ (b ∷ (c ∷ (d ∷ (e ∷ more))))) address is = cc is
 address-spelled (a ∷ (b ∷ (c ∷ (d ∷ [])))) address is =
     let four = four-by (number_below 256 a) (number_below 256 b) (number_below 256 c) (number_below 256 d) address is in
     let first = number-spelled 256 (omega arith) a four.a four.first in
@@ -138,6 +133,7 @@ address-spelled (a ∷ (b ∷ (c ∷ (d ∷ [])))) address is =
       small = record { first = first.1; second = second.1; third = third.1; fourth = fourth.1 };
       is = four.is;
     }
+address-spelled _ address is = cc is
 
 -- Peers
 
@@ -161,9 +157,6 @@ peer-found (Some address) (Some port) peer is = record { numbers = address; numb
 
 peer-by : (text : List ℕ) (parts : List (List ℕ)) (peer : Peer) → join_with_byte 58 parts ≡ text → peer_of_parts parts ≡ Some peer
     → (text ≡ peer_text peer) × IsPeer peer
-peer-by text [] peer whole is = cc is
-peer-by text (address ∷ []) peer whole is = cc is
-peer-by text (address ∷ (port ∷ (more ∷ parts))) peer whole is = cc is
 peer-by text (address ∷ (port ∷ [])) peer whole is =
     let found = peer-found (address_of_parts (parted_by 46 address)) (number_below 65536 port) peer is in
     let four = address-spelled (parted_by 46 address) found.numbers found.first in
@@ -185,6 +178,7 @@ peer-by text (address ∷ (port ∷ [])) peer whole is =
         small = number.1;
       },
     )
+peer-by text _ peer whole is = cc is
 
 peer-means : (text : List ℕ) (peer : Peer) → peer_of text ≡ Some peer → (text ≡ peer_text peer) × IsPeer peer
 peer-means text peer is = peer-by text (parted_by 58 text) peer (join_with_byte-slice_split 58 text) is
@@ -199,11 +193,6 @@ record IsAddress (address : List ℕ) : Type 0 where
   pub is : a ∷ b ∷ c ∷ d ∷ [] ≡ address
 
 address-by : (address : List ℕ) → length address ≡ 4 → All (λ byte. byte < 256) address → IsAddress address
-address-by [] four bytes = absurd (omega arith)
-address-by (a ∷ []) four bytes = absurd (omega arith)
-address-by (a ∷ (b ∷ [])) four bytes = absurd (omega arith)
-address-by (a ∷ (b ∷ (c ∷ []))) four bytes = absurd (omega arith)
-address-by (a ∷ (b ∷ (c ∷ (d ∷ (e ∷ more))))) four bytes = absurd (omega arith)
 address-by (a ∷ (b ∷ (c ∷ (d ∷ [])))) four bytes =
     let past_a = All-tail (λ byte. byte < 256) a (b ∷ c ∷ d ∷ []) bytes in
     let past_b = All-tail (λ byte. byte < 256) b (c ∷ d ∷ []) past_a in
@@ -221,6 +210,7 @@ address-by (a ∷ (b ∷ (c ∷ (d ∷ [])))) four bytes =
       };
       is = refl;
     }
+address-by _ four bytes = absurd (omega arith)
 
 -- all bytes of a peer
 peer-all : (p : ℕ → Bool) → ((byte : ℕ) → is_digit byte ≡ true → p byte ≡ true) → p 46 ≡ true → (a b c d : ℕ) → AreSmall a b c d

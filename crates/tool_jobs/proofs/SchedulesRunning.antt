@@ -76,10 +76,7 @@ scene-turns : (play : Play) (number : ℕ) (event : Event) (result : Result (Con
     → happens_to kinds_control (world_of play) event ≡ result → Turns play (by_scene play (by_step number (world_of play) event result))
 scene-turns play number event (Ok step) few is =
     record { before = refl; takes_place = is; world = refl; few = few; events = refl; configured = (refl, refl) }
-scene-turns play number event (Err fault.NoSuchFrame) few is = tt
-scene-turns play number event (Err fault.Full) few is = tt
-scene-turns play number event (Err fault.FarShort) few is = tt
-scene-turns play number event (Err fault.NoMemory) few is = tt
+scene-turns play number event _ few is = tt
 
 event-turns : (play : Play) (number : ℕ) (event : Event) → Turns play (says_event play number event)
 event-turns play number event = by (nat_lt play.events most_events) refl where
@@ -108,9 +105,8 @@ line-turns play number text = said-turns play number (read_line text)
 
 pub next-turns : (play : Play) (number : ℕ) (next : Next) → Turns play (by_next run_job play number next)
 next-turns play number (Line line) = line-turns play number (text_of line)
-next-turns play number (Long front) = tt
-next-turns play number Much = tt
 next-turns play number End = record { world = refl; events = refl; configured = λ _. (refl, refl) }
+next-turns play number _ = tt
 
 -- once there is a world
 abbrev RunsOn : ControlledWorld Both → Play → LinesResult Scene Play → Type 0

@@ -51,12 +51,8 @@ replied-in : (bytes : List ℕ) (e : EndState) (a : Incoming) (confirms : List D
     → HasItsData bytes (replies e a confirms took answer).answer
 replied-in bytes e a confirms took reply.Nothing inside =
     acking-in bytes (acknowledges e confirms took) (idle e took) (needs_ack e.phase confirms e.rows e.unacked) inside inside
-replied-in bytes e a confirms took reply.Response inside = inside
-replied-in bytes e a confirms took reply.Ack inside = inside
-replied-in bytes e a confirms took reply.Close inside = inside
 replied-in bytes e a confirms took reply.ResetClosed inside = tt
-replied-in bytes e a confirms took reply.SyncAck inside = inside
-replied-in bytes e a confirms took reply.Torn inside = inside
+replied-in bytes e a confirms took _ inside = inside
 
 delivering-in : (bytes : List ℕ) (e : EndState) (a : Incoming) (confirms : List DueConfirm) (new : Bool) (answer : Reply) → IsPlaceIn bytes (Some a.data_place)
     → HasItsData bytes (delivering e a confirms new answer).answer
@@ -65,11 +61,7 @@ delivering-in bytes e a confirms new answer inside =
 
 left-in : (bytes : List ℕ) (x : EndState) (a : Incoming) (exit : Exit) → HasItsData bytes (leaves x a exit).answer
 left-in bytes x a (exits.Drop why) = tt
-left-in bytes x a (exits.Sync number) = tt
-left-in bytes x a (exits.ResetWithoutConnection code) = tt
-left-in bytes x a exits.PacketError = tt
-left-in bytes x a (exits.Shut fault) = tt
-left-in bytes x a (exits.TimeWait code) = tt
+left-in bytes x a _ = tt
 
 moved-in : (bytes : List ℕ) (e : EndState) (a : Incoming) (confirms : List DueConfirm) (mark : Marked) (to : Phase × Reply) → IsPlaceIn bytes (Some a.data_place)
     → HasItsData bytes (moves e a confirms mark to).answer

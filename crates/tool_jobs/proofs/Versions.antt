@@ -118,9 +118,8 @@ line-stays play number text = said-stays play number (read_line text)
 
 next-stays : (play : Play) (number : ℕ) (next : Next) → IsSettled play → Stays play (by_next run_job play number next)
 next-stays play number (Line line) settled = line-stays play number (text_of line) settled
-next-stays play number (Long front) settled = tt
-next-stays play number Much settled = tt
 next-stays play number End settled = (settled, λ vectors have. have)
+next-stays play number _ settled = tt
 
 stays-by : (rest : Play → LinesResult Scene Play) (number given : ℕ) (vectors : Vectors)
     → ((next : Play) → IsSettled next → HaveVectors vectors next → HaveVectors vectors (rest next).last) → (play : Play) → HaveVectors vectors play
@@ -192,9 +191,8 @@ line-opens play number text = said-opens play number (read_line text)
 
 next-opens : (play : Play) (number : ℕ) (next : Next) → IsUnsaid play → Opens play (vectors_next next) (by_next run_job play number next)
 next-opens play number (Line line) unsaid = line-opens play number (text_of line) unsaid
-next-opens play number (Long front) unsaid = Stops _ (λ later. refl)
-next-opens play number Much unsaid = Stops _ (λ later. refl)
 next-opens play number End unsaid = Waits (λ later. refl)
+next-opens play number _ unsaid = Stops _ (λ later. refl)
 
 have-by : (one other : Vectors) (play : Play) → one ≡ other → HaveVectors other play → HaveVectors one play
 have-by one other play same have = record { client = have.client ∙ sym same; server = have.server ∙ sym same }
