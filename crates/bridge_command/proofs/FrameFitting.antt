@@ -162,8 +162,8 @@ told-fits clock (Ok (Some (told.Came peer frame))) time fits = (
   All-cons FitsFrame (timed_arrival clock (travel_in clock peer) frame) [] (record { time = time; size = arriving-few (travels (travel_in clock peer)) frame fits })
       (All-nil FitsFrame),
   time,
-told-fits clock _ time fits = (All-nil FitsFrame, time)
 )
+told-fits clock _ time fits = (All-nil FitsFrame, time)
 
 judged-fits : (clock : Clock) (number : ℕ) (line : List ℕ) → clock.seconds < 2 ^ 32 → FitsVerdict (transcript_judged clock number line)
 unfolding transcript_judged
