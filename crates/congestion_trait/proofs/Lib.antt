@@ -8,3 +8,4 @@ pub mod Calls
 pub mod Numbers
 pub mod Halves
 pub mod Keeping
+pub mod Received

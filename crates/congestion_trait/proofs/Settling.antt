@@ -113,7 +113,7 @@ module _ (told : States) (mark : Option ℕ) (later : List FlightEntry) (x : Fli
 -- what is at the place below the walk, which it did not change
 module _ (told : States) (mark : Option ℕ) (old now : List FlightEntry) (n i : ℕ) (x : FlightEntry) (walk : FlightWalk)
     (one : n ≡ i + 1) (within : n ≤ length old) (along : IsAlong told mark old n now walk) (read : slice_get now i ≡ Some x) where
-  read_old : get_or old i x ≡ x
+  pub read_old : get_or old i x ≡ x
   read_old =
       let front_long : length (take n old) ≡ n = length-take-le n old within in
       sym (get_or_append_left (take n old) (after_report told (drop n old)) x i (omega arith) ∙ get_or-take n old i x (omega arith))

@@ -1,5 +1,5 @@
 -- How a report is read along with a flight list, from the newest entry to the oldest.
-use Rattle.std.specs.Prelude.{◌≡◌, ℕ, ◌-◌, ◌^◌, ◌<◌, ◌≤◌, Bool, false, not, ◌&&◌, ◌||◌, nat_lt, List, [], ◌∷◌, ◌++◌, map, take, drop, length, Option, Some, None, slice_get, IsTrue, if◌then◌else◌}
+use Rattle.std.specs.Prelude.{◌≡◌, ℕ, ◌+◌, ◌-◌, ◌^◌, ◌<◌, ◌≤◌, Bool, true, false, not, ◌&&◌, ◌||◌, nat_lt, List, [], ◌∷◌, ◌++◌, map, take, drop, length, Option, Some, None, slice_get, IsTrue, if◌then◌else◌}
 use Rattle.std.specs.List.{list_all}
 use Rattle.seq_circle.specs.Near.{AreNear}
 use Rattle.dccp_options.specs.declared.report.Run.{Run}
@@ -44,6 +44,17 @@ pub record IsAlong (told : States) (mark : Option ℕ) (old : List FlightEntry) 
   pub reported : walk.reported ≡ reported_count (map (entry_reported told) (drop index old))
   pub out : walk.out ≡ pipe_of (after_report told (drop index old))
   pub seen : walk.seen ≡ pipe_of (drop index old)
+
+-- the result of a report that has found entries Out and received, and does not reach so many after them
+abbrev pub received_walk : ℕ → ℕ → ℕ → FlightWalk
+received_walk unheard acked heard =
+    record { acked = acked; congested = false; reported = acked; out = unheard; seen = unheard + acked; heard = heard }
+
+-- the entries from one place up to another are Out, and the report says that they were received without a mark
+abbrev pub AreReceived : States → ℕ → ℕ → List FlightEntry → Type 0
+AreReceived told from to entries =
+    (place : ℕ) (entry : FlightEntry) → from ≤ place → place < to → slice_get entries place ≡ Some entry
+    → (is_out entry.standing ≡ true) × (told entry.number ≡ Some 0)
 
 -- every entry is Reported: no report changes any of them
 abbrev pub AllReported : List FlightEntry → Type 0

@@ -1,5 +1,5 @@
 //! Reads a report at falling numbers, without starting again at each.
-ghost use Rattle.std.specs.Prelude.{◌≡◌, ℕ, ◌+◌, ◌^◌, ◌<◌, ◌≤◌, ◌⊎◌, List, [], None, IfNone, IsNone, IsTrue, length, slice_get};
+ghost use Rattle.std.specs.Prelude.{◌≡◌, ℕ, ◌+◌, ◌^◌, ◌<◌, ◌≤◌, ◌⊎◌, List, [], Some, None, IfNone, IsNone, IsTrue, length, slice_get};
 ghost use Rattle.seq_circle.specs.Circle.{distance};
 ghost use Rattle.dccp_options.specs.Vectors.{state_at, states};
 ghost use Rattle.congestion_trait.specs.Walk.{IsAt};
@@ -101,6 +101,15 @@ impl<'a> Cursor<'a> {
             }
         }
         Some(self.state)
+    }
+
+    // Whether the run at which it is says that this number was received without a mark.
+    pub fn has_received(&self, report: &AckReport<'a>, number: Seq48) -> bool
+        requires { IsAt (states report.now.bytes) self.now.start self.now.end self.now.state self.now.left self.now.ended }
+        ensures { IsTrue result → state_at report.now.ack report.now.bytes number ≡ Some 0 }
+    {
+        let place = number.distance(report.ack());
+        self.start <= place && place < self.end && self.state == 0
     }
 }
 

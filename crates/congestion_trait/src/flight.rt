@@ -7,7 +7,7 @@ ghost use Rattle.congestion_trait.specs.Walk.{was_out, numbers};
 ghost use Rattle.seq_circle.specs.Near.{AreNear};
 ghost use Rattle.congestion_trait.specs.declared.flight.Standing.TheVariants.{Reported};
 
-use crate::walk::{Counts, is_unreached, settle, settled_from};
+use crate::walk::{Counts, is_unreached, received_to, settle, settle_received, settled_from};
 use circular_buffer::HeapCircularBuffer;
 use dccp_options::AckReport;
 use seq_circle::{NoMemory, Seq48};
@@ -153,9 +153,34 @@ impl Flight {
     }
 
     // The same, if the report may reach an entry that is not Reported. It is a separate function, so that the other case
-    // costs no call.
+    // costs no call. While packets arrive in their order, a report says of the oldest such entries that they were
+    // received, and of no others.
     #[inline(never)]
     fn settle_by(&mut self, report: &AckReport<'_>, mark: Option<Seq48>) -> FlightNews
+        ensures entries { self.new ≡ after_report (state_at report.now.ack report.now.bytes) self.old }
+        ensures acked { result.acked ≡ acked_count (state_at report.now.ack report.now.bytes) self.old }
+        ensures few { result.acked ≤ 2048 }
+        ensures congested { result.congested ≡ is_congested (state_at report.now.ack report.now.bytes) mark self.old }
+    {
+        // Gives the prover that the list fits its block.
+        let len = self.entries.len();
+        let settled = self.counts.settled;
+        let Some(heard) = received_to(&self.entries, &self.counts, report) else {
+            return self.settle_any(report, mark);
+        };
+        settle_received(&mut self.entries, settled, heard);
+        self.counts.out = (len - heard) as u32;
+        self.counts.heard = heard;
+        self.counts.settled = settled_from(&self.entries, settled);
+        FlightNews {
+            acked: (heard - settled) as u32,
+            congested: false,
+        }
+    }
+
+    // The same, whatever the report says.
+    #[inline(never)]
+    fn settle_any(&mut self, report: &AckReport<'_>, mark: Option<Seq48>) -> FlightNews
         ensures entries { self.new ≡ after_report (state_at report.now.ack report.now.bytes) self.old }
         ensures acked { result.acked ≡ acked_count (state_at report.now.ack report.now.bytes) self.old }
         ensures few { result.acked ≤ 2048 }

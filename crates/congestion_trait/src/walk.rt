@@ -16,11 +16,14 @@
 //! lies past it. It ends early only if the sum and the distance from the entry up to the acknowledgement number are
 //! together less than one turn of the circle. If numbers fall, the sum is too large for both, and the pass goes over
 //! the list down to `settled`.
-ghost use Rattle.std.specs.Prelude.{◌≡◌, ℕ, ◌+◌, ◌<◌, ◌≤◌, ◌&&◌, ◌||◌, IsTrue, not, nat_le, length, take, drop, slice_get, slice_set, Some, Option};
+//!
+//! While packets arrive in their order, a report says of the entries next after `settled` that they were received, and of
+//! no others. `received_to` finds out, and no pass is needed.
+ghost use Rattle.std.specs.Prelude.{◌≡◌, ℕ, ◌+◌, ◌-◌, ◌<◌, ◌≤◌, ◌&&◌, ◌||◌, IsTrue, not, nat_le, length, take, drop, slice_get, slice_set, Some, Option, IfSome};
 ghost use Rattle.circular_buffer.specs.Buffer.{buffer};
 ghost use Rattle.dccp_options.specs.Vectors.{state_at, is_received, is_unmarked, is_marked};
-ghost use Rattle.congestion_trait.specs.Flight.{pipe_of, reported_count, after_report, acked_count, is_congested, is_out, is_reported, is_past};
-ghost use Rattle.congestion_trait.specs.Walk.{standing_after, one_if, AllReported, AllUnheard, FlightInvariant};
+ghost use Rattle.congestion_trait.specs.Flight.{States, pipe_of, reported_count, after_report, acked_count, is_congested, is_out, is_reported, is_past};
+ghost use Rattle.congestion_trait.specs.Walk.{standing_after, one_if, received_walk, AreReceived, IsAlong, AllReported, AllUnheard, FlightInvariant};
 
 use crate::cursor::{Cursor, ends_before, is_out_of_reach};
 use crate::flight::{FlightEntry, Standing};
@@ -202,6 +205,56 @@ fn unheard_from(
         place += 1;
     }
     place
+}
+
+// The place up to which the entries after the settled ones were received, if no report has reached one of them yet, and
+// the first run of this one says so of each, and nothing of those after them, as it is where packets arrive in order.
+#[inline(always)]
+pub fn received_to(
+    entries: &HeapCircularBuffer<FlightEntry>,
+    counts: &Counts,
+    report: &AckReport<'_>,
+) -> Option<usize>
+    requires kept { FlightInvariant entries.now.items entries.now.capacity counts.now }
+    ensures { IfSome result (λ heard. (counts.now.settled ≤ heard) × (heard ≤ length entries.now.items)
+        × AllUnheard (state_at report.now.ack report.now.bytes) (drop heard entries.now.items)
+        × AreReceived (state_at report.now.ack report.now.bytes) counts.now.settled heard entries.now.items) }
+{
+    if counts.settled < counts.heard {
+        return None;
+    }
+    let cursor = Cursor::new(report);
+    let mut place = counts.settled;
+    while place < entries.len() {
+        let entry = entry_at(entries, place);
+        if !cursor.has_received(report, entry.number) {
+            return if is_out_of_reach(report, entry.number, counts.span) {
+                Some(place)
+            } else {
+                None
+            };
+        }
+        place += 1;
+    }
+    Some(place)
+}
+
+// Makes the entries from one place up to another Reported.
+#[inline(always)]
+pub fn settle_received(entries: &mut HeapCircularBuffer<FlightEntry>, from: usize, to: usize)
+    requires from { from ≤ to }
+    requires to { to ≤ length entries.old.items }
+    ensures capacity { entries.new.capacity ≡ entries.old.capacity }
+    ensures along { (told : States) (mark : Option ℕ) → AllUnheard told (drop to entries.old.items) → AreReceived told from to entries.old.items
+        → IsAlong told mark entries.old.items from entries.new.items (received_walk (length entries.old.items - to) (to - from) to) }
+{
+    let mut index = to;
+    while index > from {
+        index -= 1;
+        // Gives the prover the entry.
+        let _entry = entry_at(entries, index);
+        set_standing(entries, index, Standing::Reported);
+    }
 }
 
 // Settles the entries by a report, from the newest that it may reach down to where no older one is Out or is reached by
