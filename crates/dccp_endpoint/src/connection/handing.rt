@@ -106,7 +106,7 @@ fn report_first<C: Congestion>(
     let Some(first) = first else {
         return;
     };
-    if let Some(ack) = reported_from(packet) {
+    if let Some(ack) = reported_from(packet.kind, packet.ack) {
         let report = AckReport::from_first(ack, first.data, first.following);
         congestion.on_report(&report, ratio(rows));
     }
