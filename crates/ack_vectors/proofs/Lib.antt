@@ -6,3 +6,4 @@ pub mod Pieces
 pub mod ReadBack
 pub mod Records
 pub mod Telling
+pub mod Appended

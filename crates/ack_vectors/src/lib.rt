@@ -18,4 +18,4 @@ pub use crate::laws::{
     what_is_told_was_there,
 };
 pub use crate::received::{Received, VectorRecord};
-pub use crate::room::{VectorBytes, VectorOption, Vectors};
+pub use crate::room::{VectorBytes, Vectors};

@@ -10,7 +10,7 @@ ghost use Rattle.ack_vectors.specs.Vector.{all_bytes, is_whole_under, room_of, s
 ghost use Rattle.ack_vectors.specs.declared.room.Vectors.TheVariants.{One};
 ghost use Rattle.dccp_options.specs.Written.{spelled};
 
-use crate::room::{MOST_OPTION, VectorBytes, VectorOption, Vectors, room_of};
+use crate::room::{MOST_OPTION, VectorBytes, Vectors, room_of};
 use crate::writing::put_runs;
 use arrayvec::ArrayVec;
 use circular_buffer::HeapCircularBuffer;
@@ -178,18 +178,19 @@ impl Received {
         self.append(out, room_of(vectors), ack)
     }
 
-    /// Puts one option of type 38 in place of what `out` had. Its data are the bytes that `write` gives for `One`, and
-    /// it answers as that does (RFC 4340, section 11.4).
-    pub fn write_option(&self, out: &mut VectorOption, ack: Seq48) -> bool
-        ensures bytes { out.new.items ≡ spelled false 38 (vector_under (has self.now.set.numbers) self.now.set.floor ack One) }
+    /// Appends one option of type 38 to what `out` has, which leaves room for its 255 bytes. Its data are the bytes that
+    /// `write` gives for `One`, and it answers as that does (RFC 4340, section 11.4).
+    pub fn append_option<const N: usize>(&self, out: &mut ArrayVec<u8, N>, ack: Seq48) -> bool
+        requires room { length out.old.items + 255 ≤ N }
+        ensures bytes { out.new.items ≡ out.old.items ++ spelled false 38 (vector_under (has self.now.set.numbers) self.now.set.floor ack One) }
         ensures whole { result ≡ is_whole_under (has self.now.set.numbers) self.now.set.floor ack One }
     {
-        out.clear();
+        let begin = out.len();
         out.push(ACK_VECTOR_0);
         out.push(0);
-        let whole = self.append(out, MOST_OPTION, ack);
+        let whole = self.append(out, begin + MOST_OPTION, ack);
         // The length counts all of the option.
-        out[1] = out.len() as u8;
+        out[begin + 1] = (out.len() - begin) as u8;
         whole
     }
 

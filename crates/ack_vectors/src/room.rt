@@ -14,9 +14,6 @@ pub(crate) const MOST_OPTION: usize = 255;
 /// The bytes of the Ack Vector of one packet: one option has room for 253 of them, two for 506 (RFC 4340, section 5.8).
 pub type VectorBytes = ArrayVec<u8, MOST_ROOM>;
 
-/// The bytes of one Ack Vector option: its type, its length, and at most 253 bytes of data (RFC 4340, section 5.8).
-pub type VectorOption = ArrayVec<u8, MOST_OPTION>;
-
 /// How many Ack Vector options a packet carries at most (own). The standard sets no limit, and several in a packet are
 /// read as one, joined in their order (RFC 4340, section 11.4).
 #[derive(Clone, Copy, Debug, PartialEq, Eq)]

@@ -19,6 +19,7 @@ use dccp_packets::{Frame, Header, Kind, Number, Numbers, Outbox, begin, finish};
 use seq_circle::Seq48;
 
 // The header of an end's own packets, with short numbers or with long ones.
+#[inline(always)]
 fn own_header(config: &Config, number: Seq48, short: bool, kind: &Kind) -> Header
     ensures { result ≡ own_header config.now short number kind.now }
 {
@@ -34,6 +35,7 @@ fn own_header(config: &Config, number: Seq48, short: bool, kind: &Kind) -> Heade
 }
 
 /// The numbers of a packet of this type.
+#[inline(always)]
 pub(crate) fn numbers(number: Seq48, kind: &Kind) -> Numbers
     ensures { result ≡ record { number = number; ack = ack_of (kind_in_widths kind.now) } }
 {
@@ -45,6 +47,7 @@ pub(crate) fn numbers(number: Seq48, kind: &Kind) -> Numbers
 
 /// Begins a packet with its header. The options are then appended, and `end_frame` ends it.
 #[tactic(auto, using(crate::proofs::Short::is_formed))]
+#[inline(always)]
 pub(crate) fn begin_frame(
     config: &Config,
     number: Seq48,

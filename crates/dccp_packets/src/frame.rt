@@ -25,7 +25,7 @@ impl Model for Frame {
 }
 
 impl Frame {
-    ghost use Rattle.dccp_packets.specs.Lending.{LendsBytes};
+    ghost use Rattle.dccp_packets.specs.Lending.{LendsBytes, LendsVector};
 
     /// An empty frame.
     pub fn new() -> Frame
@@ -64,6 +64,14 @@ impl Frame {
         ensures fits { length result.now ≤ 2044 }
     {
         self.bytes.as_mut_slice()
+    }
+
+    /// The vector that holds the bytes, for what appends to one.
+    pub fn vector_mut(&mut self) -> &mut ArrayVec<u8, MOST_FRAME_BYTES>
+        ensures* writes_back { sem 𝓛 (LendsVector self.entry result) }
+        ensures value { result.now.items ≡ self.old }
+    {
+        &mut self.bytes
     }
 
     // Removes all bytes.

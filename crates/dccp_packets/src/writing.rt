@@ -61,6 +61,7 @@ pub fn encode(
 /// Begins a packet in place of what `out` had: its header, whose Data Offset is still zero. `Frame::append` then writes
 /// its options, and `finish` the rest. The header must be valid (`Header::valid`), and its reserved bits are zero (RFC
 /// 4340, section 5).
+#[inline(always)]
 pub fn begin(header: &Header, out: &mut Frame)
     requires { IsTrue (is_valid header.now) }
     ensures begun { Begins header.now [] out.new }
@@ -94,8 +95,12 @@ fn fill(out: &mut Frame)
     ensures fits { length out.new ≤ 1020 }
     ensures more { length out.old ≤ length out.new }
 {
-    let zeros = padding(out.bytes());
-    out.append(&[0; WORD][..zeros]);
+    match padding(out.bytes()) {
+        0 => {}
+        1 => out.append(&[0]),
+        2 => out.append(&[0, 0]),
+        _ => out.append(&[0, 0, 0]),
+    }
 }
 
 // How many zeros fill the options up to a word.
@@ -123,6 +128,7 @@ fn put_u32(value: u32, out: &mut Frame)
     out.append(&piece);
 }
 
+#[inline(always)]
 fn put_number(number: &Number, out: &mut Frame)
     requires { length out.old + 7 ≤ 2044 }
     ensures { out.new ≡ out.old ++ number_bytes number.now }
@@ -141,6 +147,7 @@ fn put_number(number: &Number, out: &mut Frame)
     }
 }
 
+#[inline(always)]
 fn put_long_ack(ack: Seq48, out: &mut Frame)
     requires { length out.old + 8 ≤ 2044 }
     ensures { out.new ≡ out.old ++ long_ack_bytes ack }
@@ -150,6 +157,7 @@ fn put_long_ack(ack: Seq48, out: &mut Frame)
     out.append(&piece);
 }
 
+#[inline(always)]
 fn put_ack(ack: &Number, out: &mut Frame)
     requires { length out.old + 8 ≤ 2044 }
     ensures { out.new ≡ out.old ++ ack_bytes ack.now }
@@ -164,6 +172,7 @@ fn put_ack(ack: &Number, out: &mut Frame)
     }
 }
 
+#[inline(always)]
 fn put_kind(kind: &Kind, out: &mut Frame)
     requires { length out.old + 12 ≤ 2044 }
     ensures { out.new ≡ out.old ++ kind_bytes kind.now }
@@ -188,6 +197,7 @@ fn put_kind(kind: &Kind, out: &mut Frame)
 }
 
 // The nine bytes before the sequence number.
+#[inline(always)]
 fn common_bytes(header: &Header, words: u8) -> [u8; 9]
     requires { IsTrue (is_valid header.now) }
     ensures { result ≡ common_bytes header.now words }
@@ -202,6 +212,7 @@ fn common_bytes(header: &Header, words: u8) -> [u8; 9]
     bytes
 }
 
+#[inline(always)]
 fn put_header(header: &Header, words: u8, out: &mut Frame)
     requires valid { IsTrue (is_valid header.now) }
     requires fits { HeaderFits header.now }

@@ -6,7 +6,7 @@ use super::classes::{is_connected, is_open};
 use super::{Connection, fit};
 use crate::speaking::asking;
 use crate::{AbortFault, CloseFault, OpenFault, SendFault, Timer};
-use dccp_packets::{Kind, Number, Outbox, ResetCode};
+use dccp_packets::{Kind, Outbox, ResetCode};
 use dccp_states::{Phase, Role};
 use feature_lists::{Feature, Place, PreferFault, Wanted, wish};
 use feature_machine::Opening;
@@ -201,8 +201,7 @@ impl Connection {
         ensures frame { out.new ≡ (asks_now self.old keys.now (tt {0})).frame }
     {
         self.ask(keys);
-        let ack = Number::Long(self.marks.gsr);
-        self.send_ack_asking(Kind::Ack { ack }, keys, out);
+        self.send_ack_asking(keys, out);
     }
 
     /// A timer has run out, other than that of the congestion control. True exactly if it has something to do in this
@@ -277,8 +276,7 @@ impl Connection {
     fn acknowledge_now(&mut self, out: &mut Outbox)
         ensures { record { after = self.new; frame = out.new; calls = []; answer = true } ≡ sends_ack self.old (alone (kind.Ack (Long self.old.marks.gsr))) true }
     {
-        let ack = Number::Long(self.marks.gsr);
-        self.send_ack_confirming(Kind::Ack { ack }, &[], out);
+        self.send_ack(&[], out);
     }
 
     // The Changes of all rows that ask go out again.

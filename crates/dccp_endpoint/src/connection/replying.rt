@@ -10,7 +10,7 @@ use crate::outgoing::{number_without_connection, put_reset};
 use crate::speaking::DueConfirm;
 use crate::strangers::without_detail;
 use crate::{Exit, Fault, Outcome};
-use dccp_packets::{Kind, Number, Outbox, ResetCode};
+use dccp_packets::{Kind, Outbox, ResetCode};
 use dccp_states::{Phase, Reply};
 use feature_lists::{Feature, Place};
 use seq_circle::Seq48;
@@ -111,8 +111,7 @@ impl Connection {
         requires { HaveRoom confirms.now }
         ensures { record { after = self.new; frame = out.new; calls = []; answer = result } ≡ acknowledges self.old confirms.now (Took delivered) }
     {
-        let ack = Number::Long(self.marks.gsr);
-        self.send_ack_confirming(Kind::Ack { ack }, confirms, out);
+        self.send_ack(confirms, out);
         Outcome::Took { delivered }
     }
 

@@ -14,7 +14,7 @@ use crate::outgoing::{begin_frame, end_frame, numbers, put_alone, put_frame};
 use crate::speaking::{
     DueConfirm, asking, open_offers, put_changes, put_confirms, put_option, send_all,
 };
-use ack_vectors::{VectorBytes, VectorOption, Vectors};
+use ack_vectors::{VectorBytes, Vectors};
 use dccp_options::MOST_OPTION_BYTES;
 use dccp_options::kinds::ACK_VECTOR_0;
 use dccp_packets::{Frame, Kind, Number, Outbox};
@@ -162,10 +162,8 @@ impl Connection {
         ensures short { length frame.new ≤ length frame.old + 510 }
         ensures whole { result ≡ is_whole_under (has self.now.received.set.numbers) self.now.received.set.floor self.now.marks.gsr self.now.config.vectors }
     {
-        let mut option = VectorOption::new();
-        let whole = self.received.write_option(&mut option, self.marks.gsr);
-        frame.append(option.as_slice());
-        whole
+        self.received
+            .append_option(frame.vector_mut(), self.marks.gsr)
     }
 
     // Writes it into as many options as it takes up; true if they hold all of it.
@@ -193,7 +191,6 @@ impl Connection {
         if !self.sends_vectors() {
             return None;
         }
-        // Room for one option is quickly cleared.
         Some(match self.config.vectors {
             Vectors::One => self.put_one_vector(frame),
             Vectors::Two => self.put_vector(frame),
@@ -213,18 +210,14 @@ impl Connection {
     }
 
     // Sends an Ack with its Ack Vector, then the Confirms. With these there is no room for the Changes of all rows.
-    pub(crate) fn send_ack_confirming(
-        &mut self,
-        kind: Kind,
-        confirms: &[DueConfirm],
-        out: &mut Outbox,
-    )
-        requires form { has_forms true kind ≡ true }
-        requires may { may_be_short (packet_type kind) ≡ true }
-        requires room { HaveRoom confirms.now }
+    #[inline(never)]
+    pub(crate) fn send_ack(&mut self, confirms: &[DueConfirm], out: &mut Outbox)
+        requires { HaveRoom confirms.now }
         ensures counted { self.new ≡ acknowledged self.old }
-        ensures sent { out.new ≡ Some (next_frame self.old (reporting self.old (saying kind confirms.now self.old.rows []))) }
+        ensures sent { out.new ≡ Some (next_frame self.old (reporting self.old (saying (kind.Ack (Long self.old.marks.gsr)) confirms.now self.old.rows []))) }
     {
+        let ack = Number::Long(self.marks.gsr);
+        let kind = Kind::Ack { ack };
         let short = self.goes_short(confirms, &[]);
         let number = self.take_number();
         let frame = out.begin(numbers(number, &kind));
@@ -236,19 +229,14 @@ impl Connection {
     }
 
     // Sends an Ack with its Ack Vector, then the Changes of these rows, which are in CHANGING.
-    pub(crate) fn send_ack_asking(
-        &mut self,
-        kind: Kind,
-        keys: &[(Feature, Place)],
-        out: &mut Outbox,
-    )
-        requires form { has_forms true kind ≡ true }
-        requires may { may_be_short (packet_type kind) ≡ true }
+    pub(crate) fn send_ack_asking(&mut self, keys: &[(Feature, Place)], out: &mut Outbox)
         requires rows { length keys.now ≤ 18 }
         requires changing { AreChanging self.old.rows keys.now }
         ensures counted { self.new ≡ acknowledged self.old }
-        ensures sent { out.new ≡ Some (next_frame self.old (reporting self.old (saying kind [] self.old.rows keys.now))) }
+        ensures sent { out.new ≡ Some (next_frame self.old (reporting self.old (saying (kind.Ack (Long self.old.marks.gsr)) [] self.old.rows keys.now))) }
     {
+        let ack = Number::Long(self.marks.gsr);
+        let kind = Kind::Ack { ack };
         let short = self.goes_short(&[], keys);
         let number = self.take_number();
         let frame = out.begin(numbers(number, &kind));
@@ -259,23 +247,6 @@ impl Connection {
         self.record(whole);
     }
 
-    // Sends an Ack or a DataAck that has no options except its Ack Vector.
-    fn send_reporting(&mut self, kind: Kind, payload: &[u8], out: &mut Outbox)
-        requires form { has_forms true kind ≡ true }
-        requires may { may_be_short (packet_type kind) ≡ true }
-        requires short { length payload.now ≤ 1024 }
-        ensures counted { self.new ≡ acknowledged self.old }
-        ensures sent { out.new ≡ Some (next_frame self.old (reporting self.old (carrying kind payload.now))) }
-    {
-        let short = self.allows_short();
-        let number = self.take_number();
-        let frame = out.begin(numbers(number, &kind));
-        begin_frame(&self.config, number, short, &kind, frame);
-        let whole = self.report(frame);
-        end_frame(&self.config, payload, frame);
-        self.record(whole);
-    }
-
     // Sends a DataAck, which has no options except its Ack Vector.
     pub(crate) fn send_data_ack(&mut self, payload: &[u8], out: &mut Outbox)
         requires { length payload.now ≤ 1024 }
@@ -283,7 +254,14 @@ impl Connection {
         ensures sent { out.new ≡ Some (next_frame self.old (reporting self.old (carrying (kind.DataAck (Long self.old.marks.gsr)) payload.now))) }
     {
         let ack = Number::Long(self.marks.gsr);
-        self.send_reporting(Kind::DataAck { ack }, payload, out);
+        let kind = Kind::DataAck { ack };
+        let short = self.allows_short();
+        let number = self.take_number();
+        let frame = out.begin(numbers(number, &kind));
+        begin_frame(&self.config, number, short, &kind, frame);
+        let whole = self.report(frame);
+        end_frame(&self.config, payload, frame);
+        self.record(whole);
     }
 
     // Sends a Data, which has no options.

@@ -1,4 +1,4 @@
-use Rattle.std.proofs.Common.{◌≤◌, ◌∙◌, ◌++◌, ℕ, false, List, ap, length, map, sym}
+use Rattle.std.proofs.Common.{◌≤◌, ◌∙◌, ◌++◌, ℕ, false, List, ap, arith, length, length-append, map, sym}
 use Rattle.ack_vectors.specs.Vector.{option_data, set_states, vector_under}
 use Rattle.ack_vectors.specs.declared.room.Vectors.{Vectors}
 use Rattle.ack_vectors.specs.declared.room.Vectors.TheVariants.{One}
@@ -17,8 +17,19 @@ returns-clause-bytes c =
     let bytes : List ℕ = vector_under (has set.numbers) set.floor ack One in
     let fits : length bytes ≤ 253 = room-vector 253 (set_states (has set.numbers)) set.floor ack in
     let items : Vectors → List ℕ = λ vectors. written (map vector_item (option_data (vector_under (has set.numbers) set.floor ack vectors))) in
-    c.append.ensures
+    c.append_option.ensures.bytes
+    ∙ ap (λ (front : List ℕ). front ++ spelled false 38 (vector_under (has c.self.inside.received.set.numbers) c.self.inside.received.set.floor c.self.inside.marks.gsr One))
+    c.vector_mut.ensures.value
     ∙ ap (λ (option : List ℕ). c.args.frame.now ++ option)
-    (c.as_slice.ensures.value ∙ c.write_option-whole.ensures.bytes
-    ∙ ap (λ (x : EndState). spelled false 38 (vector_under (has x.received.set.numbers) x.received.set.floor x.marks.gsr One)) c.self.view_is
+    (ap (λ (x : EndState). spelled false 38 (vector_under (has x.received.set.numbers) x.received.set.floor x.marks.gsr One)) c.self.view_is
     ∙ vector_in_one bytes fits ∙ ap items (sym c.requires.one))
+
+pub returns-clause-short : goal.returns-clause-short
+returns-clause-short c =
+    let set : MarkedSet = c.self.inside.received.set in
+    let bytes : List ℕ = vector_under (has set.numbers) set.floor c.self.inside.marks.gsr One in
+    let fits : length bytes ≤ 253 = room-vector 253 (set_states (has set.numbers)) set.floor c.self.inside.marks.gsr in
+    let long = length-append c.vector_mut.result.now.items (spelled false 38 bytes) in
+    let all = ap length c.append_option.ensures.bytes in
+    let front = ap length c.vector_mut.ensures.value in
+    omega (arith, fits, long, all, front)

@@ -1,9 +1,12 @@
-use Rattle.std.proofs.Common.{◌≡◌, ◌∙◌, ◌++◌, ℕ, Bool, List, [], Some, ap, subst, sym}
+use Rattle.std.proofs.Common.{◌≡◌, ◌∙◌, ◌++◌, ℕ, Bool, List, [], Some, ap, refl, subst, sym}
 use Rattle.dccp_options.specs.Written.{Item, written}
 use Rattle.dccp_packets.specs.Beginning.{Begins}
 use Rattle.dccp_packets.specs.Outgoing.{outgoing}
 use Rattle.dccp_packets.specs.declared.frame.Numbers.{Numbers}
 use Rattle.dccp_packets.specs.declared.header.Header.{Header}
+use Rattle.dccp_packets.specs.declared.header.Kind.{Kind}
+use Rattle.dccp_packets.specs.declared.header.Kind.TheVariants as kind
+use Rattle.dccp_packets.specs.declared.header.Number.TheVariants.{Long}
 use Rattle.dccp_endpoint.specs.Drafts.{framed, own_header, sent_as}
 use Rattle.dccp_endpoint.specs.End.{EndState}
 use Rattle.dccp_endpoint.specs.Reporting.{sends_vectors, vector_items}
@@ -16,14 +19,15 @@ use Rattle.dccp_endpoint.proofs.connection.Connection.send_ack_asking.Goals as g
 pub returns-clause-sent : goal.returns-clause-sent
 returns-clause-sent c =
     let e : EndState = c.args.self.now in
-    let k = c.args.kind in
+    let ack : EndState → Kind = λ x. kind.Ack (Long x.marks.gsr) in
+    let k : Kind = kind.Ack (Long c.self.inside.marks.gsr) in
     let vector : List Item = vector_items (sends_vectors e.rows) e.config.vectors e.received.set e.marks.gsr in
     let changes : List Item = change_items e.rows c.args.keys.now in
     let number : ℕ = c.take_number-number.result in
     let short : Bool = c.goes_short-short.result in
     let area : List ℕ = written (vector ++ changes) in
     let header : Header = own_header e.config short number k in
-    let same = c.self.view_is ∙ c.take_number-number.ensures.counted in
+    let same = c.self-2.view_is ∙ c.take_number-number.ensures.counted in
     let begun : Begins header [] c.begin_frame.new.frame =
     subst (λ (x : EndState). Begins (own_header x.config short number k) [] c.begin_frame.new.frame) same c.begin_frame.ensures.begun in
     let reported : c.report-whole.new.frame ≡ c.begin_frame.new.frame ++ written vector =
@@ -44,5 +48,6 @@ returns-clause-sent c =
     ap (λ (numbers : Numbers). Some (outgoing numbers c.end_frame.new.frame)) c.numbers.ensures
     ∙ ap (λ (bytes : List ℕ). Some (sent_as number k bytes)) ended
     ∙ ap (λ (n : ℕ). Some (sent_as n k (framed e.config short n k area []))) c.take_number-number.ensures.number
-    ∙ ap (λ (form : Bool). Some (sent_as (next_number e) k (framed e.config form (next_number e) k area [])))
-    (c.goes_short-short.ensures ∙ sym (short_ack e k [] e.rows c.args.keys.now c.requires.may))
+    ∙ ap (λ (x : EndState). Some (sent_as (next_number e) (ack x) (framed e.config short (next_number e) (ack x) area []))) c.self.view_is
+    ∙ ap (λ (form : Bool). Some (sent_as (next_number e) (ack e) (framed e.config form (next_number e) (ack e) area [])))
+    (c.goes_short-short.ensures ∙ sym (short_ack e (ack e) [] e.rows c.args.keys.now refl))
