@@ -15,3 +15,14 @@ checked-sealed pseudo (b0 ∷ b1 ∷ b2 ∷ b3 ∷ b4 ∷ b5 ∷ b6 ∷ b7 ∷ r
     let states : stated (with_checksum sum bytes) ≡ checksum pseudo (with_checksum sum bytes) count = omega arith ∙ is in
     rw (e, same_checksum-same (stated (with_checksum sum bytes)) (checksum pseudo (with_checksum sum bytes) count) states) refl
 checked-sealed pseudo bytes count sum long e is small = absurd (omega arith)
+
+-- a checksum in place of another
+pub written-over : (bytes : List ℕ) (one other : ℕ) → 8 ≤ length bytes → with_checksum other (with_checksum one bytes) ≡ with_checksum other bytes
+written-over (b0 ∷ b1 ∷ b2 ∷ b3 ∷ b4 ∷ b5 ∷ b6 ∷ b7 ∷ rest) one other long = refl
+written-over bytes one other long = absurd (omega arith)
+
+-- the checksum that a packet has does not count
+pub checksum-zeroed : (pseudo : Pseudo) (bytes : List ℕ) (count : ℕ) → 8 ≤ length bytes
+    → checksum pseudo (with_checksum 0 bytes) count ≡ checksum pseudo bytes count
+checksum-zeroed pseudo (b0 ∷ b1 ∷ b2 ∷ b3 ∷ b4 ∷ b5 ∷ b6 ∷ b7 ∷ rest) count long = refl
+checksum-zeroed pseudo bytes count long = absurd (omega arith)

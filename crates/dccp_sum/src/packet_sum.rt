@@ -139,6 +139,17 @@ pub fn check(pseudo: &Pseudo, bytes: &[u8]) -> Result<(), SumFault>
     }
 }
 
+// The checksum of a packet whose own checksum is zero, so that all covered words count.
+fn sum_of_zeroed(pseudo: &Pseudo, bytes: &[u8], covered: usize) -> u16
+    requires zero { with_checksum 0 bytes.now ≡ bytes.now }
+    requires high { length bytes.now ≤ 65535 }
+    requires inside { covered ≤ length bytes.now }
+    ensures { result ≡ checksum pseudo.now bytes.now covered }
+{
+    let header = add_pseudo_header(pseudo, bytes.len() as u64);
+    0xffff - fold(add_words(header, &bytes[..covered]))
+}
+
 // Puts a checksum into a packet.
 fn write_checksum(bytes: &mut [u8], sum: u16)
     requires { 8 ≤ length bytes.old }
@@ -160,7 +171,8 @@ pub fn seal(pseudo: &Pseudo, bytes: &mut [u8]) -> bool
     let Some(covered) = covered(bytes) else {
         return false;
     };
-    let sum = checksum(pseudo, bytes, covered);
+    write_checksum(bytes, 0);
+    let sum = sum_of_zeroed(pseudo, bytes, covered);
     write_checksum(bytes, sum);
     true
 }
