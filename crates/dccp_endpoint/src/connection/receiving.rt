@@ -433,6 +433,7 @@ impl Connection {
     }
 
     // What an Ack or a DataAck acknowledges is looked up among the records.
+    #[inline(always)]
     fn look_up(&mut self, packet: &IncomingPacket<'_>)
         ensures { self.new ≡ looks_up self.old (looked_up packet.now.kind packet.now.ack) }
     {
@@ -444,7 +445,9 @@ impl Connection {
         }
     }
 
-    // The packet is marked, what it acknowledges is looked up, and then come steps 10 to 16.
+    // The packet is marked, what it acknowledges is looked up, and then come steps 10 to 16. It is inlined with what it calls,
+    // so that its outcome is not written to memory by parts and read again at once.
+    #[inline(always)]
     fn process(
         &mut self,
         packet: &IncomingPacket<'_>,

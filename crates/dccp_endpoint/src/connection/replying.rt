@@ -38,6 +38,7 @@ impl Connection {
     ghost use Rattle.dccp_endpoint.specs.Steps.{idle, sends};
 
     // What the table of phases sends; a Reset has left at step 9.
+    #[inline(always)]
     pub(crate) fn reply(
         &mut self,
         packet: &IncomingPacket<'_>,
