@@ -156,7 +156,7 @@ impl EventServer {
     ghost use Rattle.dccp_listener.specs.Peers.{end_of_peer};
     ghost use Rattle.dccp_listener.specs.Runs.{Stepped};
     ghost use Rattle.dccp_listener.specs.Standing.{IsListening};
-    ghost use Rattle.dccp_server.specs.Events.{called_on, due_state, ends_old, entry_at, flow_state, heard_on, is_shut_out, leaver_life, room_maker, shut_out, ticked_on, told_of_duty};
+    ghost use Rattle.dccp_server.specs.Events.{called_on, ends_old, entry_at, flow_state, heard_on, is_shut_out, leaver_life, room_maker, shut_out, ticked_on};
     ghost use Rattle.server_peers.specs.Events.{aborted_end, events_between, events_left, first_event, no_events, silent_end};
     ghost use Rattle.dccp_server.specs.Meeting.{IsMet, may_meet};
     ghost use Rattle.server_peers.specs.CookieUses.{rekeyed};
@@ -371,47 +371,23 @@ impl EventServer {
         self.tell(peer, was, silent_end(EndCause::Own));
     }
 
-    // Keeps the flow of a duty at hand.
-    fn seek_due(&mut self, duty: Option<Duty>)
-        ensures { self.new ≡ self.old }
-    {
-        if let Some(duty) = duty {
-            self.server.seek(duty.peer());
-        }
-    }
-
-    // What the owner sees of the flow of a duty.
-    fn due_state(&self, duty: Option<Duty>) -> Option<FlowState>
-        ensures { result ≡ due_state self.now.server.room duty }
-    {
-        match duty {
-            Some(duty) => flow_state(&self.server, duty.peer()),
-            None => None,
-        }
-    }
-
-    // Lists the events of a duty that was done.
-    fn tell_duty(&mut self, duty: Option<Duty>, was: Option<FlowState>)
-        ensures { self.new ≡ record self.old { events = told_of_duty was self.old.server.room duty } }
-    {
-        match duty {
-            Some(duty) => self.tell(duty.peer(), was, aborted_end(EndCause::Silent)),
-            None => self.events = FlowEvents::none(),
-        }
-    }
-
     /// `Server::tick`, with its events: a connection that it ends was given up.
     pub fn tick(&mut self, now: u64, out: &mut Outbox) -> Option<Duty>
         ensures duty { result ≡ duty_in now self.old.server.rules self.old.server.room }
         ensures after { self.new ≡ ticked_on self.old (record self.old.server { room = duty_done now self.old.server.room result }) result }
         ensures sent { out.new ≡ duty_frame now self.old.server.room result }
     {
-        let duty = self.server.duty(now);
-        self.seek_due(duty);
-        let was = self.due_state(duty);
+        let Some(duty) = self.server.duty(now) else {
+            out.clear();
+            self.events = FlowEvents::none();
+            return None;
+        };
+        let peer = duty.peer();
+        self.server.seek(peer);
+        let was = flow_state(&self.server, peer);
         self.server.perform(duty, now, out);
-        self.tell_duty(duty, was);
-        duty
+        self.tell(peer, was, aborted_end(EndCause::Silent));
+        Some(duty)
     }
 
     /// `Server::set_rules`.

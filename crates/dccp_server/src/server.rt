@@ -59,7 +59,7 @@ impl Server {
     ghost use Rattle.dccp_listener.specs.Standing.{IsListening};
     ghost use Rattle.dccp_packets.specs.Grammar.{decoded};
     ghost use Rattle.server_peers.specs.Lives.{life_of};
-    ghost use Rattle.dccp_server.specs.Meeting.{IsMet, cleared, entry_met, entry_without, flow_at, heard_again, hurrying, is_unproved, maker_of, may_meet, needs_no_flow, received_hurrying, reopened, returned, unreceived_hurrying, unreopened};
+    ghost use Rattle.dccp_server.specs.Meeting.{IsMet, cleared, entry_met, flow_at, heard_again, hurrying, is_unproved, maker_of, may_meet, needs_no_flow, received_hurrying, reopened, returned, unreceived_hurrying, unreopened};
     ghost use Rattle.server_peers.specs.CookieUses.{rekeyed};
     ghost use Rattle.server_peers.specs.Places.{peer_after};
     ghost use Rattle.dccp_server.specs.Refusals.{refused_frame, refused_server};
@@ -199,24 +199,6 @@ impl Server {
         self.timed.would_admit(peer, datagram, now)
     }
 
-    // The kind of a datagram that brings no opening back.
-    fn entry_without(
-        &self,
-        peer: Peer,
-        iss: Seq48,
-        datagram: &DecodedDatagram<'_>,
-        now: u64,
-    ) -> DatagramKind
-        requires { length datagram.now ≤ 2044 }
-        ensures { result ≡ entry_without now self.now peer iss datagram.now }
-    {
-        if self.keys.is_some() && self.needs_no_flow(peer, datagram, now) {
-            let route = route_of(self.timed.config(), peer);
-            return entry_by(asking_of(now, iss, &route, datagram));
-        }
-        DatagramKind::Plain
-    }
-
     // The kind of a datagram that brings this opening back, if it brings one.
     fn entry_met(
         &self,
@@ -230,10 +212,14 @@ impl Server {
         requires brought { opening ≡ returned now self.now peer datagram.now }
         ensures { result ≡ entry_met now self.now peer iss datagram.now }
     {
-        match opening {
-            Some(opening) => DatagramKind::Returns(opening),
-            None => self.entry_without(peer, iss, datagram, now),
+        if let Some(opening) = opening {
+            return DatagramKind::Returns(opening);
         }
+        if self.keys.is_some() && self.needs_no_flow(peer, datagram, now) {
+            let route = route_of(self.timed.config(), peer);
+            return entry_by(asking_of(now, iss, &route, datagram));
+        }
+        DatagramKind::Plain
     }
 
     // The Request of an opening arrives again.
@@ -509,8 +495,8 @@ impl Server {
         follow(&mut self.timed, &mut self.lives, peer, now, out);
     }
 
-    // Does a duty.
-    fn do_duty(&mut self, duty: Duty, now: u64, out: &mut Outbox)
+    /// Does a duty.
+    pub(crate) fn perform(&mut self, duty: Duty, now: u64, out: &mut Outbox)
         ensures after { self.new ≡ record self.old { room = duty_done now self.old.room (Some duty) } }
         ensures sent { out.new ≡ duty_frame now self.old.room (Some duty) }
     {
@@ -531,20 +517,12 @@ impl Server {
         ensures after { self.new ≡ record self.old { room = duty_done now self.old.room result } }
         ensures sent { out.new ≡ duty_frame now self.old.room result }
     {
-        let duty = self.duty(now);
+        let Some(duty) = self.duty(now) else {
+            out.clear();
+            return None;
+        };
         self.perform(duty, now, out);
-        duty
-    }
-
-    /// Does a duty, if there is one.
-    pub(crate) fn perform(&mut self, duty: Option<Duty>, now: u64, out: &mut Outbox)
-        ensures after { self.new ≡ record self.old { room = duty_done now self.old.room duty } }
-        ensures sent { out.new ≡ duty_frame now self.old.room duty }
-    {
-        out.clear();
-        if let Some(duty) = duty {
-            self.do_duty(duty, now, out);
-        }
+        Some(duty)
     }
 
     /// In how many milliseconds something is due at a flow, or one is given up; 2^64 - 1 if there is no such time.

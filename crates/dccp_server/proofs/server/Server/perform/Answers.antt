@@ -1,5 +1,5 @@
 use Rattle.dccp_server.proofs.Judging.{duty_as}
-use Rattle.dccp_server.proofs.server.Server.do_duty.Goals as goal
+use Rattle.dccp_server.proofs.server.Server.perform.Goals as goal
 
 pub returns-in-Follow-clause-after : goal.returns-in-Follow-clause-after
 returns-in-Follow-clause-after c =
