@@ -1,7 +1,6 @@
 //! The data of a listener's flows that wait until their owner reads them.
 ghost use Rattle.std.specs.Prelude.{◌≡◌, None, Some, true};
 ghost use Rattle.data_dropped.specs.Buffering.{HasDataWithin};
-ghost use Rattle.data_dropped.specs.Intakes.{came_in};
 ghost use Rattle.dccp_listener.specs.Peers.{end_of_peer};
 ghost use Rattle.dccp_server.specs.FlowInboxes.{event_kept, flow_speaks_by, kind_kept, lies_within};
 ghost use Rattle.dccp_states.specs.declared.outcome.Outcome.TheVariants.{Took};
@@ -51,23 +50,6 @@ fn lies_within(bytes: &[u8], place: (usize, usize)) -> bool
     place.0 <= place.1 && place.1 <= bytes.len()
 }
 
-// Data came under this number, at this place in the datagram.
-fn settle_in(
-    intake: &mut Intake,
-    number: Seq48,
-    bytes: &[u8],
-    place: (usize, usize),
-) -> Option<Arrival>
-    requires { HasDataWithin bytes.now (Took (Some place)) }
-    ensures inbox { intake.new ≡ (came_in intake.old number bytes.now (Some (Took (Some place)))).inbox }
-    ensures arrival { result ≡ (came_in intake.old number bytes.now (Some (Took (Some place)))).arrival }
-{
-    let outcome = Outcome::Took {
-        delivered: Some(place),
-    };
-    intake.settle(number, bytes, &Some(outcome))
-}
-
 // Adds what this inbox has to say to the frame in the box, if the peer to which it goes has a flow.
 fn speak_at(intake: &Intake, server: &Server, peer: Peer, out: &mut Outbox)
     ensures says { out.new ≡ flow_speaks_by intake.now (end_of_peer server.now.room.served.listening.flows peer) out.old }
@@ -82,7 +64,7 @@ impl FlowInboxes {
     ghost use Rattle.std.specs.Prelude.{◌≡◌, ◌≤◌, ◌==◌, None, OnErr, OnOk, IfOk, false, not, if◌then◌else◌};
     ghost use Rattle.data_dropped.specs.Buffering.{HasDataWithin};
     ghost use Rattle.dccp_listener.specs.Peers.{end_of_peer};
-    ghost use Rattle.dccp_server.specs.FlowInboxes.{begun_fresh, flow_delivers, flow_delivers_by, flow_first_read, flow_held, flow_inbox, flow_most_said, flow_read_over, flow_speaks, flow_stopped, flow_takes_in, flow_without_first, finds_no_place, finds_no_place_by, lacks_place, needs_no_inbox, no_inboxes, tidied, tidied_if, with_place, without_inbox_of};
+    ghost use Rattle.dccp_server.specs.FlowInboxes.{begun_fresh, flow_delivers, flow_delivers_by, flow_first_read, flow_held, flow_most_said, flow_read_over, flow_speaks, flow_stopped, flow_takes_in, flow_without_first, finds_no_place, finds_no_place_by, lacks_place, needs_no_inbox, no_inboxes, tidied, tidied_if, with_place, without_inbox_of};
     ghost use Rattle.server_peers.specs.Strangers.{told_of_arrival};
     ghost use Rattle.dccp_states.specs.declared.outcome.Outcome.TheVariants.{Took};
 
@@ -145,7 +127,12 @@ impl FlowInboxes {
         ensures arrival { result ≡ (flow_takes_in self.old peer number bytes.now place).arrival }
     {
         match self.intakes.get_mut(&peer) {
-            Some(intake) => settle_in(intake, number, bytes, place),
+            Some(intake) => {
+                let outcome = Outcome::Took {
+                    delivered: Some(place),
+                };
+                intake.settle(number, bytes, &Some(outcome))
+            }
             None => None,
         }
     }
@@ -197,20 +184,13 @@ impl FlowInboxes {
         }
     }
 
-    // Removes the peer's inbox.
-    fn remove(&mut self, peer: Peer)
-        ensures { self.new ≡ without_inbox_of self.old peer }
-    {
-        let _ = self.intakes.remove(&peer);
-    }
-
     /// `had` says whether the peer had a flow before a datagram. With a new flow, the data that waited from the one
     /// before are lost.
     pub fn begin(&mut self, server: &Server, peer: Peer, had: bool)
         ensures { self.new ≡ begun_fresh self.old peer had (end_of_peer server.now.room.served.listening.flows peer) }
     {
         if !had && server.flow(peer).is_some() {
-            self.remove(peer);
+            self.forget(peer);
         }
     }
 
@@ -233,7 +213,7 @@ impl FlowInboxes {
             return;
         }
         if server.flow(peer).is_none() && self.held(peer) == 0 {
-            self.remove(peer);
+            self.forget(peer);
         }
     }
 
@@ -250,7 +230,7 @@ impl FlowInboxes {
     pub fn forget(&mut self, peer: Peer)
         ensures { self.new ≡ without_inbox_of self.old peer }
     {
-        self.remove(peer);
+        let _ = self.intakes.remove(&peer);
     }
 
     /// Takes the data of a peer that have waited longest: writes them over the front of `into`, and returns their
@@ -266,15 +246,6 @@ impl FlowInboxes {
         }
     }
 
-    // Stops the peer's inbox, if it has one.
-    fn stop_there(&mut self, peer: Peer)
-        ensures { self.new ≡ flow_stopped self.old peer }
-    {
-        if let Some(intake) = self.intakes.get_mut(&peer) {
-            let _ = intake.stop();
-        }
-    }
-
     /// The owner stops reading a peer's data: those that arrive from now on are dropped, and this is reported to the
     /// peer (RFC 4340, section 11.7). False if flows have no inbox. NoMemory comes as in `settle`. In both cases
     /// nothing changes.
@@ -285,7 +256,9 @@ impl FlowInboxes {
         ensures unchanged { OnErr result (self.new ≡ self.old) }
     {
         self.place(peer)?;
-        self.stop_there(peer);
+        if let Some(intake) = self.intakes.get_mut(&peer) {
+            let _ = intake.stop();
+        }
         Ok(self.capacity != 0)
     }
 

@@ -1,5 +1,5 @@
 //! The calls of a listener, with what is kept of its flows and with their lives.
-ghost use Rattle.std.specs.Prelude.{◌≡◌, ◌≤◌, None, Some, Ok, IfOk, OnOk, OnErr, length, if◌then◌else◌};
+ghost use Rattle.std.specs.Prelude.{◌≡◌, ◌≤◌, None, Some, Ok, IfOk, OnOk, OnErr, length};
 ghost use Rattle.dccp_listener.specs.Calls.{seen_if};
 ghost use Rattle.dccp_listener.specs.Chain.{Arrives, Calls, asked};
 ghost use Rattle.dccp_listener.specs.Listens.{listens};
@@ -157,25 +157,6 @@ fn make_room(
     hear(timed, lives, &life, peer, iss, datagram, now, out)
 }
 
-// A peer that has connected again loses its old flow, and the Sync is not sent.
-fn begin_anew(
-    timed: &mut TimedListener,
-    lives: &mut Register<Life>,
-    anew: bool,
-    peer: Peer,
-    now: u64,
-    out: &mut Outbox,
-)
-    requires { IsLiving (as_room timed.old lives.old) }
-    ensures living { IsLiving (as_room timed.new lives.new) }
-    ensures room { as_room timed.new lives.new ≡ (if anew then forgets now (as_room timed.old lives.old) peer else as_room timed.old lives.old) }
-    ensures frame { out.new ≡ (if anew then None else out.old) }
-{
-    if anew {
-        forget(timed, lives, peer, now, out);
-    }
-}
-
 /// Whether more flows are half open than places are free.
 pub(crate) fn is_crowded(timed: &TimedListener, lives: &Register<Life>) -> bool
     ensures { result ≡ is_crowded (as_room timed.now lives.now) }
@@ -228,7 +209,10 @@ fn judge(
         },
         Heard::Flow(outcome) => {
             let anew = begins_anew(rules, life, datagram, signs_in(&outcome));
-            begin_anew(timed, lives, anew, peer, now, out);
+            // The Sync is not sent then.
+            if anew {
+                forget(timed, lives, peer, now, out);
+            }
             HearingResult {
                 heard: Ok(Heard::Flow(outcome)),
                 evicted: None,
