@@ -101,8 +101,6 @@ fn report_first<C: Congestion>(
     ensures { congestion.new ≡ after_calls C.control congestion.old
         (report_calls (reported_from packet.now.kind packet.now.ack) packet.now.options (value_in rows.now feature.AckRatio place.Here)) }
 {
-    // Gives the prover that the options fit their area.
-    let _options = packet.options;
     let Some(first) = first else {
         return;
     };
