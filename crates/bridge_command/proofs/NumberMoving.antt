@@ -14,7 +14,8 @@ use Rattle.bridge_command.specs.declared.frames.mapping.UsualEnd.{UsualEnd}
 
 -- the numbers have the forms that they had
 forms-kept : (long : Bool) (end : UsualEnd) (initial : ℕ) (k : Kind) → has_forms long (moved_kind end initial k) ≡ has_forms long k
-forms-kept long end initial (Request service) = refl
+forms-kept long end initial (Ack (Long ack)) = refl
+forms-kept long end initial (DataAck (Long ack)) = refl
 forms-kept long end initial _ = refl
 
 -- a valid header stays valid
