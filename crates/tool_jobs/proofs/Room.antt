@@ -118,6 +118,7 @@ shown-few number before after event old new n shows few = by (happens_to kinds_c
   by : (result : Result (ControlledStep Both) WorldFault) → happens_to kinds_control before event ≡ result
       → ShowsEvent (by_step number before event result) old new after (Ok tt) → SentFew after (n + 1)
   by (Ok step) is shown = subst (λ (w : ControlledWorld Both). SentFew w (n + 1)) (sym shown.1) (one-more-frame before event step n few is)
+  by (Err fault.NoSuchFrame) is shown = cc shown.1
   by _ is shown = cc shown.1
 
 pub few-at : (client server : Config) (world : Option (ControlledWorld Both)) (n : ℕ) → IfSome world (λ w. SentFew w n)

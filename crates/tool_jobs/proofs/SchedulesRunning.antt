@@ -76,6 +76,7 @@ scene-turns : (play : Play) (number : ℕ) (event : Event) (result : Result (Con
     → happens_to kinds_control (world_of play) event ≡ result → Turns play (by_scene play (by_step number (world_of play) event result))
 scene-turns play number event (Ok step) few is =
     record { before = refl; takes_place = is; world = refl; few = few; events = refl; configured = (refl, refl) }
+scene-turns play number event (Err fault.NoSuchFrame) few is = tt
 scene-turns play number event _ few is = tt
 
 event-turns : (play : Play) (number : ℕ) (event : Event) → Turns play (says_event play number event)
