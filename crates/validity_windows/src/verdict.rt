@@ -122,6 +122,7 @@ impl Marks {
     ///
     /// A packet without an acknowledgement number is judged by its number alone. For sound marks the intervals are
     /// those of whole numbers, wherever the circle's end lies (`verdicts_are_those_of_whole_numbers`).
+    #[inline(always)]
     pub fn check(&self, kind: PacketType, number: Seq48, ack: Option<Seq48>) -> Verdict
         requires in_range { InRange self.now }
         requires ack { is_some ack ≡ has_ack kind }
