@@ -6,7 +6,7 @@ use dccp_options::kinds::{ACK_VECTOR_0, CHANGE_L};
 use dccp_options::{AckReport, OptFull, OptWriter, options};
 use dccp_packets::{
     Frame, Header, Kind, MOST_FRAME_BYTES, Malformed, Number, Numbers, OptionsTooLong, Outbox,
-    PacketType, ResetCode, decode, encode,
+    PacketType, ResetCode, begin, decode, encode, finish,
 };
 use dccp_states::{Entrance, Phase, Reply, Role, after, gate, unexpected};
 use dccp_sum::{Pseudo, SumFault, check, checksum, covered, seal};
@@ -149,6 +149,27 @@ const TO_CLIENT: Pseudo = Pseudo::V4 {
     from: [10, 0, 0, 2],
     to: [10, 0, 0, 1],
 };
+
+// Written in pieces it has the same bytes: its header, its options, of which the last byte by the vector, and no data.
+fn writes_in_pieces() -> bool {
+    let Some(header) = header_of(&RESPONSE) else {
+        return false;
+    };
+    if !header.valid() {
+        return false;
+    }
+    let mut out = Frame::new();
+    begin(&header, &mut out);
+    out.append(&RESPONSE[28..51]);
+    out.vector_mut().push(RESPONSE[51]);
+    finish(&[], &mut out);
+    out.bytes() == RESPONSE.as_slice()
+}
+
+#[test]
+fn a_response_in_pieces(rt: HostRuntime) {
+    assert!(rt; writes_in_pieces());
+}
 
 // With one more byte it has another length, which its checksum covers.
 #[test]
