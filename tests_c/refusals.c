@@ -1157,9 +1157,11 @@ static void memory_of_a_listener(void) {
     }
 }
 
-/* Each allocation that a flow takes is refused in turn: then there is none, nothing is left, and nothing is kept but what is allocated first:
- * the first blocks of two registers, those of lives and of timers, each of which has a queue and a map. */
+/* Each allocation that a flow takes is refused in turn: then there is none, nothing is left, and nothing is kept except what is allocated first:
+ * the first blocks of two registers, those of lives and of timers. Each takes a block for its queue, a box for its value, which goes with the
+ * flow, and a block for its list. */
 static void memory_of_a_flow(void) {
+    static const unsigned kept[] = {0, 1, 1, 2, 3, 3};
     dccp_frame datagram = request(client.service), frame;
     dccp_view view = DCCP_VIEW_INIT;
     dccp_told told;
@@ -1174,7 +1176,7 @@ static void memory_of_a_flow(void) {
         if (is_reached) {
             same("its frame", 0, frame.length);
             same("the flow", DCCP_NO_FLOW, dccp_listener_look(&listener, &guest, &view));
-            same("blocks that are kept", before + (at < 5 ? at - 1 : 4), held);
+            same("blocks that are kept", before + (at < 7 ? kept[at - 1] : 4), held);
         }
         dccp_listener_free(&listener);
         same("blocks after free", 0, held);
